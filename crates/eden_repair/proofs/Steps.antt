@@ -1,5 +1,5 @@
 -- One entry, or one directory, further.
-use Rattle.std.proofs.Common.{◌≡◌, ◌≢◌, ◌∙◌, ◌++◌, ◌<◌, ℕ, suc, zero, Bool, true, List, [], ◌∷◌, None, Some, refl, sym, ap, subst, ◌⊎◌, inl, inr, length, get_or, arith}
+use Rattle.std.proofs.Common.{◌≡◌, ◌≢◌, ◌∙◌, ◌++◌, ◌<◌, ℕ, suc, zero, Bool, true, List, [], ◌∷◌, map, None, Some, refl, sym, ap, subst, ◌⊎◌, inl, inr, length, get_or, arith}
 use Rattle.std.specs.List.{AllByRecursion, list_any}
 use Rattle.std.specs.BTreeMap.{is_at}
 use Rattle.std.specs.BTreeSet.{contains}
@@ -11,18 +11,21 @@ use Rattle.eden_overlay.proofs.CallerLemmas.{OneMore, same_or_apart, contains_ca
 use Rattle.std.proofs.lemmas.List.{append_assoc, append-nil, map-append}
 use Rattle.std.proofs.lemmas.List.Elements.{Contains-append_cases, Contains-append_left, Contains-append_right, Contains-push, Contains-push_cases}
 use Rattle.eden_model.specs.Trees.{Name}
+use Rattle.eden_model.specs.declared.kind.Origin.{Origin}
+use Rattle.eden_model.specs.declared.kind.Origin.TheVariants as origin
 use Rattle.eden_overlay_format.specs.declared.stored_entry.StoredEntry.{StoredEntry}
 use Rattle.eden_overlay_format.specs.Directory.{AreStorable}
 use Rattle.eden_overlay.specs.Files.{Stored}
 use Rattle.eden_repair.specs.declared.damage.Damage.{Damage}
 use Rattle.eden_repair.specs.declared.finding.Finding.{Finding}
-use Rattle.eden_repair.specs.Repairing.{Paths, AreOfNoUse, Forgets, HasNumber, IsRepaired, Mends, Sorts, Stores, TellsOf, paths_below, root_path}
-use Rattle.eden_repair.specs.Surveying.{AreLed, AreOf, ForgetsMore, ForgetsOn, Goes, IsMended, IsMetThen, Mended, SortsOn, WereSeen}
+use Rattle.eden_repair.specs.Repairing.{Way, AreOfNoUse, Forgets, HasNumber, IsRepaired, Mends, Sorts, Stores, TellsOf, root_way, way, ways_below}
+use Rattle.eden_repair.specs.Surveying.{AreLed, AreOf, ForgetsMore, ForgetsOn, Goes, IsMended, IsMetThen, IsOnTree, Mended, SortsOn, WereSeen, way_of}
 use Rattle.eden_repair.specs.declared.survey.Directory.{Directory}
 use Rattle.eden_repair.specs.declared.survey.Sorted.{Sorted}
 use Rattle.eden_repair.proofs.Left.{AreAmong}
 use Rattle.eden_model.specs.declared.id.Id.{Id}
-use Rattle.eden_overlay.specs.Held.{HoldsEntries, saved_at, with_entries, without}
+use Rattle.eden_overlay.specs.Counting.{root_from}
+use Rattle.eden_overlay.specs.Held.{HoldsEntries, root_file, saved_at, with_entries, without}
 
 -- an entry that goes
 pub one_goes : (F : Stored) (at : List Name) (before entries kept : List StoredEntry) (cut : List Finding) (e : StoredEntry) (d : Damage) (f : Finding) (was : ℕ → Bool)
@@ -65,55 +68,77 @@ looks_on looked d was is seen more k there = more k ∙ at (contains_cases d k l
     | inr ne ↦ ap (λ b. cond b true (was k)) (ne_eqb d k ne) ∙ seen k old
   ]
 
--- directories that are left have their paths
-pub led_less : (paths : Paths) (xs ys : List Directory) → AreAmong ys xs → AreLed paths xs → AreLed paths ys
-led_less paths xs ys among led = record { each = λ y there. led.each y (among y there) }
+-- a way's parts make it
+same_way : (k l : ℕ) (o p : Origin) (at to : List Name) → l ≡ k → p ≡ o → to ≡ at → way k o at ≡ way l p to
+same_way k l o p at to number from path =
+    ap (λ x. way x o at) (sym number) ∙ ap (λ x. way l x at) (sym from) ∙ ap (λ x. way l p x) (sym path)
 
-pub led_on : (paths more : Paths) (x : Directory) (below rest : List Directory) → AreLed paths (x ∷ rest) → AreLed more below → AreLed (paths ++ more) (below ++ rest)
-led_on paths more x below rest led new = record {
+-- ways lead to the directories that are left
+pub led_less : (ways : List Way) (xs ys : List Directory) → AreAmong ys xs → AreLed ways xs → AreLed ways ys
+led_less ways xs ys among led = record { each = λ y there. led.each y (among y there) }
+
+pub led_on : (ways more : List Way) (x : Directory) (below rest : List Directory) → AreLed ways (x ∷ rest) → AreLed more below → AreLed (ways ++ more) (below ++ rest)
+led_on ways more x below rest led new = record {
   each = λ y there. elim (Contains-append_cases below rest y there) [
-    | inl b ↦ Contains-append_right paths more (y.number, y.path.items) (new.each y b)
-    | inr r ↦ Contains-append_left paths more (y.number, y.path.items) (led.each y (contains_rest x y rest r))
+    | inl b ↦ Contains-append_right ways more (way_of y) (new.each y b)
+    | inr r ↦ Contains-append_left ways more (way_of y) (led.each y (contains_rest x y rest r))
   ];
 }
 
 -- the root is
-pub top_led : (x : Directory) → x.number ≡ 1 → x.path.items ≡ [] → AreLed root_path (x ∷ [])
-top_led x number path = record { each = λ y there. lies y (contains_cases x y [] there) } where
-  lies : (y : Directory) → (x ≡ y) ⊎ Contains [] y → Contains root_path (y.number, y.path.items)
+top_led : (x : Directory) (o : Origin) → x.number ≡ 1 → x.origin ≡ o → x.path.items ≡ [] → AreLed (way 1 o [] ∷ []) (x ∷ [])
+top_led x o number from path = record { each = λ y there. lies y (contains_cases x y [] there) } where
+  lies : (y : Directory) → (x ≡ y) ⊎ Contains [] y → Contains (way 1 o [] ∷ []) (way_of y)
   lies y (inl is) =
-      let P : Directory → Type 0 = λ z. Contains root_path (z.number, z.path.items) in
-      subst P is (subst (λ k. Contains root_path (k, x.path.items)) (sym number) (subst (λ p. Contains root_path (1, p)) (sym path) (contains_first (1, []) [])))
+      let P : Way → Type 0 = Contains (way 1 o [] ∷ []) in
+      let at : way 1 o [] ≡ way_of x = same_way 1 x.number o x.origin [] x.path.items number from path in
+      subst (λ z. P (way_of z)) is (subst P at (contains_first (way 1 o []) []))
   lies y (inr none) = absurd (contains_none y none)
 
-pub led_none : (paths : Paths) → AreLed paths []
-led_none paths = record { each = λ y there. absurd (contains_none y there) }
+pub top_leads : (F G : Stored) (root : Id) (x : Directory) (left : List Directory) → G ≡ F → left ≡ x ∷ [] → x.number ≡ 1 → x.origin ≡ root_from root (root_file F)
+    → x.path.items ≡ [] → AreLed (root_way root G) left
+top_leads F G root x left same one number from path =
+    subst (λ (X : Stored). AreLed (root_way root X) left) (sym same)
+    (subst (AreLed (root_way root F)) (sym one) (top_led x (root_from root (root_file F)) number from path))
 
-pub led_none_of : (paths : Paths) (left : List Directory) → left ≡ [] → AreLed paths left
-led_none_of paths left none = subst (AreLed paths) (sym none) (led_none paths)
+pub led_none : (ways : List Way) → AreLed ways []
+led_none ways = record { each = λ y there. absurd (contains_none y there) }
 
--- the paths of one entry more
-paths_push : (at : List Name) (entries : List StoredEntry) (e : StoredEntry) → paths_below at (entries ++ e ∷ []) ≡ paths_below at entries ++ (e.number, at ++ e.name ∷ []) ∷ []
-paths_push at entries e = map-append (λ (x : StoredEntry). (x.number, at ++ x.name ∷ [])) entries (e ∷ [])
-
-pub none_led : (at : List Name) (entries : List StoredEntry) (below : List Directory) (e : StoredEntry) → AreLed (paths_below at entries) below → AreLed (paths_below at (entries ++ e ∷ [])) below
-none_led at entries below e led = record {
-  each = λ y there.
-      subst (λ l. Contains l (y.number, y.path.items)) (sym (paths_push at entries e)) (Contains-append_left (paths_below at entries) _ (y.number, y.path.items) (led.each y there));
+-- each directory has its own way
+pub all_led : (left : List Directory) → AreLed (map way_of left) left
+all_led [] = led_none []
+all_led (x ∷ xs) = record {
+  each = λ y there. elim (contains_cases x y xs there) [
+    | inl is ↦ subst (λ z. Contains (map way_of (x ∷ xs)) (way_of z)) is (contains_first (way_of x) (map way_of xs))
+    | inr old ↦ Contains-append_right (way_of x ∷ []) (map way_of xs) (way_of y) ((all_led xs).each y old)
+  ];
 }
 
-pub one_led : (at : List Name) (entries : List StoredEntry) (below : List Directory) (e : StoredEntry) (x : Directory) → x.number ≡ e.number → x.path.items ≡ at ++ e.name ∷ []
-    → AreLed (paths_below at entries) below → AreLed (paths_below at (entries ++ e ∷ [])) (below ++ x ∷ [])
-one_led at entries below e x number path led = record { each = λ y there. lies y (Contains-push_cases below x y there) } where
-  last : Contains (paths_below at (entries ++ e ∷ [])) (e.number, at ++ e.name ∷ [])
-  last = subst (λ l. Contains l (e.number, at ++ e.name ∷ [])) (sym (paths_push at entries e)) (Contains-push (paths_below at entries) (e.number, at ++ e.name ∷ []))
+pub led_none_of : (ways : List Way) (left : List Directory) → left ≡ [] → AreLed ways left
+led_none_of ways left none = subst (AreLed ways) (sym none) (led_none ways)
 
-  x_lies : Contains (paths_below at (entries ++ e ∷ [])) (x.number, x.path.items)
-  x_lies = subst (λ k. Contains (paths_below at (entries ++ e ∷ [])) (k, x.path.items)) (sym number) (subst (λ p. Contains (paths_below at (entries ++ e ∷ [])) (e.number, p)) (sym path) last)
+-- the way to one entry more
+ways_push : (at : List Name) (entries : List StoredEntry) (e : StoredEntry) → ways_below at (entries ++ e ∷ []) ≡ ways_below at entries ++ (way e.number e.origin (at ++ e.name ∷ [])) ∷ []
+ways_push at entries e = map-append (λ (x : StoredEntry). way x.number x.origin (at ++ x.name ∷ [])) entries (e ∷ [])
 
-  lies : (y : Directory) → Contains below y ⊎ (x ≡ y) → Contains (paths_below at (entries ++ e ∷ [])) (y.number, y.path.items)
+pub none_led : (at : List Name) (entries : List StoredEntry) (below : List Directory) (e : StoredEntry) → AreLed (ways_below at entries) below → AreLed (ways_below at (entries ++ e ∷ [])) below
+none_led at entries below e led = record {
+  each = λ y there.
+      subst (λ l. Contains l (way_of y)) (sym (ways_push at entries e)) (Contains-append_left (ways_below at entries) _ (way_of y) (led.each y there));
+}
+
+pub one_led : (at : List Name) (entries : List StoredEntry) (below : List Directory) (e : StoredEntry) (x : Directory) → x.number ≡ e.number → x.origin ≡ e.origin
+    → x.path.items ≡ at ++ e.name ∷ [] → AreLed (ways_below at entries) below → AreLed (ways_below at (entries ++ e ∷ [])) (below ++ x ∷ [])
+one_led at entries below e x number from path led = record { each = λ y there. lies y (Contains-push_cases below x y there) } where
+  last : Contains (ways_below at (entries ++ e ∷ [])) (way e.number e.origin (at ++ e.name ∷ []))
+  last = subst (λ l. Contains l (way e.number e.origin (at ++ e.name ∷ []))) (sym (ways_push at entries e)) (Contains-push (ways_below at entries) (way e.number e.origin (at ++ e.name ∷ [])))
+
+  x_lies : Contains (ways_below at (entries ++ e ∷ [])) (way_of x)
+  x_lies = subst (Contains (ways_below at (entries ++ e ∷ []))) (same_way e.number x.number e.origin x.origin (at ++ e.name ∷ []) x.path.items number from path) last
+
+  lies : (y : Directory) → Contains below y ⊎ (x ≡ y) → Contains (ways_below at (entries ++ e ∷ [])) (way_of y)
   lies y (inl old) = (none_led at entries below e led).each y old
-  lies y (inr is) = (let P : Directory → Type 0 = λ z. Contains (paths_below at (entries ++ e ∷ [])) (z.number, z.path.items) in subst P is x_lies)
+  lies y (inr is) = (let P : Directory → Type 0 = λ z. Contains (ways_below at (entries ++ e ∷ [])) (way_of z) in subst P is x_lies)
 
 -- an own directory was read, its entries were sorted, and those that stay are stored
 pub record IsKept (F G : Stored) (d : ℕ) (at : List Name) (entries : List StoredEntry) (s : Sorted) (was is : ℕ → Bool) : Type 0 where
@@ -122,48 +147,51 @@ pub record IsKept (F G : Stored) (d : ℕ) (at : List Name) (entries : List Stor
   pub sorts : (stayed : List StoredEntry) → AreOf was stayed → SortsOn F at stayed entries s is
   pub stores : Stores F d s.listing s.cut.items G
 
-pub directory_kept : (begun F G : Stored) (told : List Finding) (was is was_seen is_seen : ℕ → Bool) (x : Directory) (rest : List Directory) (entries : List StoredEntry) (s : Sorted)
-    → Mended begun told F was was_seen (x ∷ rest) → was_seen x.number ≡ false → OneMore x.number was_seen is_seen → IsKept F G x.number x.path.items entries s was is
-    → AreLed (paths_below x.path.items s.listing) s.below.items → Mended begun (told ++ s.cut.items) G is is_seen (s.below.items ++ rest)
-directory_kept begun F G told was is was_seen is_seen x rest entries s m first more k led =
+pub directory_kept : (begun F G : Stored) (first : List Way) (told : List Finding) (was is was_seen is_seen : ℕ → Bool) (x : Directory) (rest : List Directory)
+    (entries : List StoredEntry) (s : Sorted) → x.origin ≡ origin.Own → Mended begun first told F was was_seen (x ∷ rest) → was_seen x.number ≡ false → OneMore x.number was_seen is_seen
+    → IsKept F G x.number x.path.items entries s was is → AreLed (ways_below x.path.items s.listing) s.below.items
+    → Mended begun first (told ++ s.cut.items) G is is_seen (s.below.items ++ rest)
+directory_kept begun F G first told was is was_seen is_seen x rest entries s own m new more k led =
     let d = x.number in
     let at = x.path.items in
     let on = k.sorts m.stayed m.met in
-    let unseen : ¬ Contains m.looked d = λ old. let wrong : true ≡ false = sym (m.seen d old) ∙ first in absurd (cc) in
+    let unseen : ¬ Contains m.looked d = λ old. let wrong : true ≡ false = sym (m.seen d old) ∙ new in absurd (cc) in
+    let there = subst (λ o. Contains m.ways (way d o at)) own (m.led.each x (contains_first x rest)) in
     record {
       looked = d ∷ m.looked;
-      paths = m.paths ++ paths_below at s.listing;
+      ways = m.ways ++ ways_below at s.listing;
       stayed = m.stayed ++ s.listing;
-      mends = Mends.own m.looked m.paths m.stayed entries s.listing told s.cut.items F G d at m.mends unseen (m.led.each x (contains_first x rest)) k.held on.sorts k.stores;
+      mends = Mends.own m.looked m.ways m.stayed entries s.listing told s.cut.items F G d at m.mends unseen there k.held on.sorts k.stores;
       met = on.met;
       seen = looks_on m.looked d was_seen is_seen m.seen more;
-      led = led_on m.paths (paths_below at s.listing) x s.below.items rest m.led led;
+      led = led_on m.ways (ways_below at s.listing) x s.below.items rest m.led led;
     }
 
 -- one of which nothing comes
-pub directory_bare : (begun F G : Stored) (told : List Finding) (was was_seen is_seen : ℕ → Bool) (x : Directory) (below rest : List Directory) → G ≡ F → below ≡ []
-    → OneMore x.number was_seen is_seen → Mended begun told F was was_seen (x ∷ rest) → Mended begun told G was is_seen (below ++ rest)
-directory_bare begun F G told was was_seen is_seen x below rest same none more m =
-    subst (λ l. Mended begun told G was is_seen (l ++ rest)) (sym none) (record {
+pub directory_bare : (begun F G : Stored) (first : List Way) (told : List Finding) (was was_seen is_seen : ℕ → Bool) (x : Directory) (below rest : List Directory) → G ≡ F → below ≡ []
+    → OneMore x.number was_seen is_seen → Mended begun first told F was was_seen (x ∷ rest) → Mended begun first told G was is_seen (below ++ rest)
+directory_bare begun F G first told was was_seen is_seen x below rest same none more m =
+    subst (λ l. Mended begun first told G was is_seen (l ++ rest)) (sym none) (record {
       looked = m.looked;
-      paths = m.paths;
+      ways = m.ways;
       stayed = m.stayed;
-      mends = subst (Mends begun m.looked m.paths m.stayed told) (sym same) m.mends;
+      mends = subst (Mends begun first m.looked m.ways m.stayed told) (sym same) m.mends;
       met = m.met;
       seen = λ d there. more d ∙ ap (cond (x.number == d) true) (m.seen d there) ∙ elim (x.number == d) as (λ b. cond b true true ≡ true) [ true ↦ refl | false ↦ refl ];
-      led = led_less m.paths (x ∷ rest) rest (λ y there. contains_rest x y rest there) m.led;
+      led = led_less m.ways (x ∷ rest) rest (λ y there. contains_rest x y rest there) m.led;
     })
 
 -- fewer directories are left, or in another order
-pub mended_less : (begun G : Stored) (told : List Finding) (met seen : ℕ → Bool) (xs ys : List Directory) → AreAmong ys xs → Mended begun told G met seen xs → Mended begun told G met seen ys
-mended_less begun G told met seen xs ys among m = record {
+pub mended_less : (begun G : Stored) (first : List Way) (told : List Finding) (met seen : ℕ → Bool) (xs ys : List Directory) → AreAmong ys xs
+    → Mended begun first told G met seen xs → Mended begun first told G met seen ys
+mended_less begun G first told met seen xs ys among m = record {
   looked = m.looked;
-  paths = m.paths;
+  ways = m.ways;
   stayed = m.stayed;
   mends = m.mends;
   met = m.met;
   seen = m.seen;
-  led = led_less m.paths xs ys among m.led;
+  led = led_less m.ways xs ys among m.led;
 }
 
 pub stores_some : (F G : Stored) (d : ℕ) (kept : List StoredEntry) (cut : List Finding) → length cut ≢ 0 → G ≡ with_entries F d kept → Stores F d kept cut G
@@ -174,21 +202,22 @@ pub stores_none : (F G : Stored) (d : ℕ) (kept : List StoredEntry) (cut : List
 stores_none F G d kept [] none same = same
 stores_none F G d kept (f ∷ cut) none same = absurd (cc)
 
-pub so_far : (F G : Stored) (told : List Finding) (met seen : ℕ → Bool) (xs ys : List Directory) → AreAmong ys xs → Mended F told G met seen xs → IsMended F told G ys
-so_far F G told met seen xs ys among m = record { looked = m.looked; paths = m.paths; stayed = m.stayed; mends = m.mends; led = led_less m.paths xs ys among m.led }
+pub so_far : (F G : Stored) (first : List Way) (told : List Finding) (met seen : ℕ → Bool) (xs ys : List Directory) → AreAmong ys xs → Mended F first told G met seen xs
+    → IsMended F first told G ys
+so_far F G first told met seen xs ys among m = record { looked = m.looked; ways = m.ways; stayed = m.stayed; mends = m.mends; led = led_less m.ways xs ys among m.led }
 
 -- nothing is in a set without keys
 pub none_there : (s : BTreeSet ℕ) → s.keys ≡ [] → (k : ℕ) → contains nat_cmp s k ≡ false
 none_there s empty k = ap (list_any (is_at (nat_cmp k))) empty
 
 -- at the beginning no number was met
-pub begins : (F : Stored) (told : List Finding) (met seen : BTreeSet ℕ) (left : List Directory) → told ≡ [] → met.keys ≡ [] → seen.keys ≡ [] → AreLed root_path left
-    → Mended F told F (contains nat_cmp met) (contains nat_cmp seen) left
-begins F told met seen left none empty unseen led = record {
+pub begins : (F : Stored) (first : List Way) (told : List Finding) (met seen : BTreeSet ℕ) (left : List Directory) → told ≡ [] → met.keys ≡ [] → seen.keys ≡ [] → AreLed first left
+    → Mended F first told F (contains nat_cmp met) (contains nat_cmp seen) left
+begins F first told met seen left none empty unseen led = record {
   looked = [];
-  paths = root_path;
+  ways = first;
   stayed = [];
-  mends = subst (λ l. Mends F [] root_path [] l F) (sym none) Mends.begun;
+  mends = subst (λ l. Mends F first [] first [] l F) (sym none) Mends.begun;
   met = λ k has. let wrong : false ≡ true = sym (none_there met empty k) ∙ has in absurd (cc);
   seen = λ d there. absurd (contains_none d there);
   led = led;
@@ -200,9 +229,9 @@ begins F told met seen left none empty unseen led = record {
 pub taken_back : {X : Type 0} (told more all : List X) (n : ℕ) → n ≡ length told → all ≡ told ++ more → take n all ≡ told
 taken_back told more all n long is = ap (λ l. take n l) is ∙ ap (λ m. take m (told ++ more)) long ∙ take-append_seam told more
 
-pub forgets_none : (F G : Stored) (first : Paths) (told after : List Finding) (left : List Directory) → G ≡ F → after ≡ told → AreLed first left → ForgetsMore F first told G after left
+pub forgets_none : (F G : Stored) (first : List Way) (told after : List Finding) (left : List Directory) → G ≡ F → after ≡ told → AreLed first left → ForgetsMore F first told G after left
 forgets_none F G first told after left same untold led = record {
-  paths = first;
+  ways = first;
   forgotten = [];
   forgets = subst (λ (X : Stored). Forgets F first first [] X) (sym same) Forgets.begun;
   told = untold ∙ sym (append-nil told);
@@ -215,57 +244,58 @@ forgets_bare F G told after x below same untold none first rest led =
     subst (λ l. ForgetsMore F first told G after (l ++ rest)) (sym none)
     (forgets_none F G first told after rest same untold (led_less first (x ∷ rest) rest (λ y there. contains_rest x y rest there) led))
 
-pub forgets_one : (F G : Stored) (told after : List Finding) (x : Directory) (f : Finding) → f.number ≡ x.number → f.path.items ≡ x.path.items → AreOfNoUse F f.number f.damage → f.is_numbers ≡ true
-    → G ≡ without F f.number → after ≡ told ++ f ∷ [] → ForgetsOn x F told G after []
-forgets_one F G told after x f number path useless numbers stored more first rest led =
-    let at : Contains first (f.number, f.path.items) =
-    subst (λ k. Contains first (k, f.path.items)) (sym number) (subst (λ p. Contains first (x.number, p)) (sym path) (led.each x (contains_first x rest))) in
+pub forgets_one : (F G : Stored) (told after : List Finding) (x : Directory) (f : Finding) → f.number ≡ x.number → f.path.items ≡ x.path.items → IsOnTree x
+    → AreOfNoUse F f.number f.damage → f.is_numbers ≡ true → G ≡ without F f.number → after ≡ told ++ f ∷ [] → ForgetsOn x F told G after []
+forgets_one F G told after x f number path on useless numbers stored more first rest led =
+    let at : Contains first (way f.number (origin.Object on.tree) f.path.items) =
+    subst (Contains first) (same_way x.number f.number x.origin (origin.Object on.tree) x.path.items f.path.items number (sym on.from) path) (led.each x (contains_first x rest)) in
     record {
-      paths = first;
+      ways = first;
       forgotten = f ∷ [];
-      forgets = subst (λ (X : Stored). Forgets F first first (f ∷ []) X) (sym stored) (Forgets.forgotten first [] F f Forgets.begun at useless numbers);
+      forgets = subst (λ (X : Stored). Forgets F first first (f ∷ []) X) (sym stored) (Forgets.forgotten first [] F f on.tree Forgets.begun at useless numbers);
       told = more;
       led = led_less first (x ∷ rest) rest (λ y there. contains_rest x y rest there) led;
     }
 
 -- numbers that stay
 pub forgets_saved : (F G : Stored) (told after : List Finding) (x : Directory) (tree : Id) (entries : List StoredEntry) (below : List Directory) → G ≡ F → after ≡ told
-    → saved_at F x.number tree ≡ Some entries → AreLed (paths_below x.path.items entries) below → ForgetsOn x F told G after below
-forgets_saved F G told after x tree entries below same untold saved new first rest led = record {
-  paths = first ++ paths_below x.path.items entries;
+    → x.origin ≡ origin.Object tree → saved_at F x.number tree ≡ Some entries → AreLed (ways_below x.path.items entries) below → ForgetsOn x F told G after below
+forgets_saved F G told after x tree entries below same untold from saved new first rest led = record {
+  ways = first ++ ways_below x.path.items entries;
   forgotten = [];
-  forgets = subst (λ (X : Stored). Forgets F first (first ++ paths_below x.path.items entries) [] X) (sym same)
-      (Forgets.saved first [] F x.number x.path.items tree entries Forgets.begun (led.each x (contains_first x rest)) saved);
+  forgets = subst (λ (X : Stored). Forgets F first (first ++ ways_below x.path.items entries) [] X) (sym same)
+      (Forgets.saved first [] F x.number x.path.items tree entries Forgets.begun
+      (subst (λ o. Contains first (way x.number o x.path.items)) from (led.each x (contains_first x rest))) saved);
   told = untold ∙ sym (append-nil told);
-  led = led_on first (paths_below x.path.items entries) x below rest led new;
+  led = led_on first (ways_below x.path.items entries) x below rest led new;
 }
 
 -- one after another
-forgets_on : (F G : Stored) (first mid : Paths) (some : List Finding) → Forgets F first mid some G → (H : Stored) (last : Paths) (rest : List Finding)
+forgets_on : (F G : Stored) (first mid : List Way) (some : List Finding) → Forgets F first mid some G → (H : Stored) (last : List Way) (rest : List Finding)
     → Forgets G mid last rest H → Forgets F first last (some ++ rest) H
 forgets_on F G first mid some one H last rest Forgets.begun = subst (λ l. Forgets F first mid l G) (sym (append-nil some)) one
-forgets_on F G first mid some one H last rest (Forgets.saved paths told X d at tree entries two there saved) =
-    Forgets.saved paths (some ++ told) X d at tree entries (forgets_on F G first mid some one X paths told two) there saved
-forgets_on F G first mid some one H last rest (Forgets.forgotten paths told X f two there useless numbers) =
-    subst (λ l. Forgets F first paths l (without X f.number)) (append_assoc some told (f ∷ []))
-    (Forgets.forgotten paths (some ++ told) X f (forgets_on F G first mid some one X paths told two) there useless numbers)
+forgets_on F G first mid some one H last rest (Forgets.saved ways told X d at tree entries two there saved) =
+    Forgets.saved ways (some ++ told) X d at tree entries (forgets_on F G first mid some one X ways told two) there saved
+forgets_on F G first mid some one H last rest (Forgets.forgotten ways told X f tree two there useless numbers) =
+    subst (λ l. Forgets F first ways l (without X f.number)) (append_assoc some told (f ∷ []))
+    (Forgets.forgotten ways (some ++ told) X f tree (forgets_on F G first mid some one X ways told two) there useless numbers)
 
 -- .. of the directories that are left the one that is looked at, with those below it behind the others
-pub forgets_then : (F G H : Stored) (first : Paths) (told mid after : List Finding) (left rest below xs : List Directory) (x : Directory) → AreAmong (x ∷ rest) left
+pub forgets_then : (F G H : Stored) (first : List Way) (told mid after : List Finding) (left rest below xs : List Directory) (x : Directory) → AreAmong (x ∷ rest) left
     → AreAmong xs (below ++ rest) → ForgetsMore F first told G mid left → ForgetsOn x G mid H after below → ForgetsMore F first told H after xs
 forgets_then F G H first told mid after left rest below xs x up among one on =
-    let two = on one.paths rest (led_less one.paths left (x ∷ rest) up one.led) in
+    let two = on one.ways rest (led_less one.ways left (x ∷ rest) up one.led) in
     record {
-      paths = two.paths;
+      ways = two.ways;
       forgotten = one.forgotten ++ two.forgotten;
-      forgets = forgets_on F G first one.paths one.forgotten one.forgets H two.paths two.forgotten two.forgets;
+      forgets = forgets_on F G first one.ways one.forgotten one.forgets H two.ways two.forgotten two.forgets;
       told = two.told ∙ ap (λ l. l ++ two.forgotten) one.told ∙ append_assoc told one.forgotten two.forgotten;
-      led = led_less two.paths (below ++ rest) xs among two.led;
+      led = led_less two.ways (below ++ rest) xs among two.led;
     }
 
-pub forgets_less : (F G : Stored) (first : Paths) (told after : List Finding) (xs ys : List Directory) → AreAmong ys xs → ForgetsMore F first told G after xs
+pub forgets_less : (F G : Stored) (first : List Way) (told after : List Finding) (xs ys : List Directory) → AreAmong ys xs → ForgetsMore F first told G after xs
     → ForgetsMore F first told G after ys
-forgets_less F G first told after xs ys among m = record { paths = m.paths; forgotten = m.forgotten; forgets = m.forgets; told = m.told; led = led_less m.paths xs ys among m.led }
+forgets_less F G first told after xs ys among m = record { ways = m.ways; forgotten = m.forgotten; forgets = m.forgets; told = m.told; led = led_less m.ways xs ys among m.led }
 
 pub on_err : {X Y : Type 0} (r : Result X Y) (P : Type 0) → P → OnErr r P
 on_err (Ok x) P is = tt
@@ -273,24 +303,25 @@ on_err (Err y) P is = is
 
 -- ---- the whole
 
-pub repairs : (F G H : Stored) (cut told : List Finding) (left rest : List Directory) → (m : IsMended F cut G left) → ForgetsMore G m.paths cut H told rest → IsRepaired F told H
-repairs F G H cut told left rest m f = record {
+pub repairs : (F G H : Stored) (root : Id) (cut told : List Finding) (left rest : List Directory) → (m : IsMended F (root_way root F) cut G left) → ForgetsMore G m.ways cut H told rest
+    → IsRepaired F root told H
+repairs F G H root cut told left rest m f = record {
   looked = m.looked;
-  paths = m.paths;
+  ways = m.ways;
   stayed = m.stayed;
   cut = cut;
   between = G;
-  last = f.paths;
+  last = f.ways;
   forgotten = f.forgotten;
   mends = m.mends;
   forgets = f.forgets;
   all = f.told;
 }
 
-pub mended_alone : (F G : Stored) (told : List Finding) (left : List Directory) → IsMended F told G left → IsRepaired F told G
-mended_alone F G told left m = repairs F G G told told left [] m (forgets_none G G m.paths told told [] refl refl (led_none m.paths))
+pub mended_alone : (F G : Stored) (root : Id) (told : List Finding) (left : List Directory) → IsMended F (root_way root F) told G left → IsRepaired F root told G
+mended_alone F G root told left m = repairs F G G root told told left [] m (forgets_none G G m.ways told told [] refl refl (led_none m.ways))
 
-pub untouched : (F G : Stored) (told : List Finding) → told ≡ [] → G ≡ F → IsRepaired F told G
-untouched F G told none same =
-    subst (λ (X : Stored). IsRepaired F told X) (sym same) (subst (λ l. IsRepaired F l F) (sym none)
-    (mended_alone F F [] [] (record { looked = []; paths = root_path; stayed = []; mends = Mends.begun; led = led_none root_path })))
+pub untouched : (F G : Stored) (root : Id) (told : List Finding) → told ≡ [] → G ≡ F → IsRepaired F root told G
+untouched F G root told none same =
+    subst (λ (X : Stored). IsRepaired F root told X) (sym same) (subst (λ l. IsRepaired F root l F) (sym none)
+    (mended_alone F F root [] [] (record { looked = []; ways = root_way root F; stayed = []; mends = Mends.begun; led = led_none (root_way root F) })))

@@ -1,5 +1,5 @@
 -- What holds once a survey has nothing left to look at.
-use Rattle.std.proofs.Common.{◌≡◌, ◌∙◌, ◌++◌, ℕ, Bool, true, false, List, [], ◌∷◌, Contains, refl, sym, ap, subst, inl, inr}
+use Rattle.std.proofs.Common.{◌≡◌, ◌∙◌, ◌++◌, ℕ, Bool, true, false, ◌⊎◌, List, [], ◌∷◌, Contains, refl, sym, ap, subst, inl, inr}
 use Rattle.std.proofs.lemmas.List.Elements.{Contains-append_left, Contains-append_cases, Contains-push, Contains-push_cases}
 use Rattle.eden_model.specs.declared.id.Id.{Id}
 use Rattle.eden_model.specs.declared.kind.Origin.{Origin}
@@ -22,8 +22,10 @@ use Rattle.eden_repair.specs.Covering.{CantBeMended, IsCovered, IsDone, IsKnown,
 left_there : (xs ys : List Directory) → AreAmong xs ys → (d : ℕ) (o : Origin) → IsLeft xs d o → IsLeft ys d o
 left_there xs ys there d o l = record { directory = l.directory; there = there l.directory l.there; number = l.number; from = l.from }
 
-pub reordered : (F : Stored) (root : Id) (xs ys : List Directory) (met seen : ℕ → Bool) → AreAmong xs ys → AreAmong ys xs → IsCovered F root xs met seen → IsCovered F root ys met seen
-reordered F root xs ys met seen to back c = record {
+-- others are left, if each of them was, and each that isn't left any more is done
+left_now : (F : Stored) (root : Id) (xs ys : List Directory) (met seen : ℕ → Bool) → AreAmong ys xs → (c : IsCovered F root xs met seen)
+    → ((d : ℕ) (o : Origin) → IsLeft xs d o → IsLeft ys d o ⊎ IsDone F c.stay d o) → IsCovered F root ys met seen
+left_now F root xs ys met seen back c each = record {
   from = c.from;
   stay = c.stay;
   covers = record {
@@ -32,35 +34,24 @@ reordered F root xs ys met seen to back c = record {
     met = c.covers.met;
     once = c.covers.once;
     known = λ x there. c.covers.known x (back x there);
-    each = λ d o known. elim (c.covers.each d o known) [ inl l ↦ inl (left_there xs ys to d o l) | inr done ↦ inr done ];
+    each = λ d o known. elim (c.covers.each d o known) [ inl l ↦ each d o l | inr done ↦ inr done ];
   };
   seen = c.seen;
 }
 
+pub reordered : (F : Stored) (root : Id) (xs ys : List Directory) (met seen : ℕ → Bool) → AreAmong xs ys → AreAmong ys xs → IsCovered F root xs met seen → IsCovered F root ys met seen
+reordered F root xs ys met seen to back c = left_now F root xs ys met seen back c (λ d o l. inl (left_there xs ys to d o l))
+
 -- one for which the overlay holds nothing has nothing to look at
 pub empty_done : (F : Stored) (root : Id) (x : Directory) (rest : List Directory) (met seen : ℕ → Bool) → x.origin ≡ origin.Empty
     → IsCovered F root (x ∷ rest) met seen → IsCovered F root rest met seen
-empty_done F root x rest met seen empty c = record {
-  from = c.from;
-  stay = c.stay;
-  covers = record {
-    top = c.covers.top;
-    own = c.covers.own;
-    met = c.covers.met;
-    once = c.covers.once;
-    known = λ y there. c.covers.known y (contains_rest x y rest there);
-    each = λ d o known. elim (c.covers.each d o known) [
-      | inr done ↦ inr done
-      | inl l ↦ elim (contains_cases x l.directory rest l.there) [
-        | inr later ↦ inl (record { directory = l.directory; there = later; number = l.number; from = l.from })
-        | inl is ↦ inr (nothing d o (sym l.from ∙ ap (λ (y : Directory). y.origin) (sym is) ∙ empty))
-      ]
-    ];
-  };
-  seen = c.seen;
-} where
-  nothing : (d : ℕ) (o : Origin) → o ≡ origin.Empty → IsDone F c.stay d o
-  nothing d o is = subst (IsDone F c.stay d) (sym is) (record { entries = λ e l. (let held = l.held in absurd (cc)); numbers = λ tree is_object. absurd (cc) })
+empty_done F root x rest met seen empty c = left_now F root (x ∷ rest) rest met seen (λ y there. contains_rest x y rest there) c
+    (λ d o l. elim (contains_cases x l.directory rest l.there) [
+      | inr later ↦ inl (record { directory = l.directory; there = later; number = l.number; from = l.from })
+      | inl is ↦ inr (nothing d o (sym l.from ∙ ap (λ (y : Directory). y.origin) (sym is) ∙ empty))
+    ]) where
+      nothing : (d : ℕ) (o : Origin) → o ≡ origin.Empty → IsDone F c.stay d o
+      nothing d o is = subst (IsDone F c.stay d) (sym is) (record { entries = λ e l. (let held = l.held in absurd (cc)); numbers = λ tree is_object. absurd (cc) })
 
 -- directories are seen anew
 pub unseen : (F : Stored) (root : Id) (left : List Directory) (met was_seen is_seen : ℕ → Bool) → ((d : ℕ) → is_seen d ≡ false)

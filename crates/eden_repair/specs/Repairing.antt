@@ -3,6 +3,7 @@ use Rattle.std.specs.Prelude.{◌≡◌, ◌++◌, ℕ, true, List, [], ◌∷�
 use Rattle.eden_model.specs.declared.id.Id.{Id}
 use Rattle.eden_model.specs.Trees.{Name}
 use Rattle.eden_model.specs.declared.kind.Kind.{Kind}
+use Rattle.eden_model.specs.declared.kind.Origin.{Origin}
 use Rattle.eden_model.specs.declared.kind.Origin.TheVariants as origin
 use Rattle.eden_overlay_format.specs.declared.stored_entry.StoredEntry.{StoredEntry}
 use Rattle.eden_overlay_format.specs.declared.header.Identifier.TheVariants as identifier
@@ -11,7 +12,8 @@ use Rattle.eden_overlay_format.specs.Stored.{Refuses}
 use Rattle.eden_overlay_format.specs.Values.{numbers_in}
 use Rattle.eden_overlay.specs.declared.fault.GetFault.TheVariants as get
 use Rattle.eden_overlay.specs.Files.{Stored}
-use Rattle.eden_overlay.specs.Held.{HoldsEntries, saved_at, with_entries, without}
+use Rattle.eden_overlay.specs.Counting.{root_from}
+use Rattle.eden_overlay.specs.Held.{HoldsEntries, root_file, saved_at, with_entries, without}
 use Rattle.eden_overlay.specs.Rescanning.{ExplainsKind}
 use Rattle.eden_overlay.specs.Soundness.{HasOwn}
 use Rattle.eden_repair.specs.declared.damage.Damage.{Damage}
@@ -56,26 +58,32 @@ abbrev pub Stores : Stored → ℕ → List StoredEntry → List Finding → Sto
 Stores G d kept [] H = H ≡ G
 Stores G d kept (f ∷ cut) H = H ≡ with_entries G d kept
 
--- inodes, each by its number and a path
-abbrev pub Paths : Type 0
-Paths = List (ℕ × List Name)
+-- an inode by its number, where it comes from, and a path
+pub record Way : Type 0 where
+  pub number : ℕ
+  pub from : Origin
+  pub path : List Name
 
--- of each of these entries its number, and its path, of a directory at that path
-abbrev pub paths_below : List Name → List StoredEntry → Paths
-paths_below at entries = map (λ (e : StoredEntry). (e.number, at ++ e.name ∷ [])) entries
+abbrev pub way : ℕ → Origin → List Name → Way
+way k o at = record { number = k; from = o; path = at }
 
--- the root's number and path
-abbrev pub root_path : Paths
-root_path = (1, []) ∷ []
+-- the inodes of these entries, of a directory at that path
+abbrev pub ways_below : List Name → List StoredEntry → List Way
+ways_below at entries = map (λ (e : StoredEntry). way e.number e.origin (at ++ e.name ∷ [])) entries
+
+-- the root, over that tree object, if the files don't make it their own
+abbrev pub root_way : Id → Stored → List Way
+root_way root F = way 1 (root_from root (root_file F)) [] ∷ []
 
 -- The files F became G, by one own directory after another, each once: its entries are sorted, and those that stay are stored if others
--- go, which are told in order. Listed are the directories that were looked at; the numbers and paths of the root and of the entries that
--- stay, one of which is the directory's; and these entries.
-pub data Mends (F : Stored) : List ℕ → Paths → List StoredEntry → List Finding → Stored → Type 0 where
-  begun : Mends F [] root_path [] [] F
-  own : (looked : List ℕ) (paths : Paths) (stayed entries kept : List StoredEntry) (told cut : List Finding) (G H : Stored) (d : ℕ) (at : List Name)
-      → Mends F looked paths stayed told G → ¬ Contains looked d → Contains paths (d, at) → HoldsEntries G d entries → Sorts G at stayed entries kept cut
-      → Stores G d kept cut H → Mends F (d ∷ looked) (paths ++ paths_below at kept) (stayed ++ kept) (told ++ cut) H
+-- go, which are told in order. Listed are the directories that were looked at; the ways to the first inodes and to the entries that stay, of which
+-- one leads to the directory, as an own one; and these entries.
+pub data Mends (F : Stored) (first : List Way) : List ℕ → List Way → List StoredEntry → List Finding → Stored → Type 0 where
+  begun : Mends F first [] first [] [] F
+  own : (looked : List ℕ) (ways : List Way) (stayed entries kept : List StoredEntry) (told cut : List Finding) (G H : Stored) (d : ℕ) (at : List Name)
+      → Mends F first looked ways stayed told G → ¬ Contains looked d → Contains ways (way d origin.Own at) → HoldsEntries G d entries
+      → Sorts G at stayed entries kept cut → Stores G d kept cut H
+      → Mends F first (d ∷ looked) (ways ++ ways_below at kept) (stayed ++ kept) (told ++ cut) H
 
 -- Numbers of a directory on a tree object that stand alone in file k can't be used: they can't be read, for that reason, or one of them is
 -- an entry's that was met before.
@@ -85,23 +93,26 @@ AreOfNoUse F k (damage.Damaged refusal) = HasNumbersAlone F k × IsSomeAnd (F k)
 AreOfNoUse F k damage.Twice = HasNumbersAlone F k
 
 -- The files F became G, by one directory with such numbers after another: they are saved for its tree object, and their entries stay, with
--- their paths; or they are of no use, which is told, and are gone. The paths are first those of entries that stay in own directories.
-pub data Forgets (F : Stored) (first : Paths) : Paths → List Finding → Stored → Type 0 where
+-- their ways; or they are of no use, which is told, and are gone. The ways are first those of what stays in own directories.
+pub data Forgets (F : Stored) (first : List Way) : List Way → List Finding → Stored → Type 0 where
   begun : Forgets F first first [] F
-  saved : (paths : Paths) (told : List Finding) (G : Stored) (d : ℕ) (at : List Name) (tree : Id) (entries : List StoredEntry) → Forgets F first paths told G
-      → Contains paths (d, at) → saved_at G d tree ≡ Some entries → Forgets F first (paths ++ paths_below at entries) told G
-  forgotten : (paths : Paths) (told : List Finding) (G : Stored) (f : Finding) → Forgets F first paths told G → Contains paths (f.number, f.path.items)
-      → AreOfNoUse G f.number f.damage → f.is_numbers ≡ true → Forgets F first paths (told ++ f ∷ []) (without G f.number)
+  saved : (ways : List Way) (told : List Finding) (G : Stored) (d : ℕ) (at : List Name) (tree : Id) (entries : List StoredEntry)
+      → Forgets F first ways told G → Contains ways (way d (origin.Object tree) at) → saved_at G d tree ≡ Some entries
+      → Forgets F first (ways ++ ways_below at entries) told G
+  forgotten : (ways : List Way) (told : List Finding) (G : Stored) (f : Finding) (tree : Id)
+      → Forgets F first ways told G → Contains ways (way f.number (origin.Object tree) f.path.items)
+      → AreOfNoUse G f.number f.damage → f.is_numbers ≡ true → Forgets F first ways (told ++ f ∷ []) (without G f.number)
 
--- the files F became G, and all that was taken out is told: first own directories were mended, and then numbers forgotten
-pub record IsRepaired (F : Stored) (told : List Finding) (G : Stored) : Type 0 where
+-- the files F, over that commit's tree, became G, and all that was taken out is told: first own directories were mended, from the root on,
+-- and then numbers forgotten
+pub record IsRepaired (F : Stored) (root : Id) (told : List Finding) (G : Stored) : Type 0 where
   pub looked : List ℕ
-  pub paths : Paths
+  pub ways : List Way
   pub stayed : List StoredEntry
   pub cut : List Finding
   pub between : Stored
-  pub last : Paths
+  pub last : List Way
   pub forgotten : List Finding
-  pub mends : Mends F looked paths stayed cut between
-  pub forgets : Forgets between paths last forgotten G
+  pub mends : Mends F (root_way root F) looked ways stayed cut between
+  pub forgets : Forgets between ways last forgotten G
   pub all : told ≡ cut ++ forgotten

@@ -16,7 +16,7 @@ use Rattle.eden_model.specs.declared.id.Id.{Id}
 use Rattle.eden_overlay_format.specs.Directory.{AreStorable}
 use Rattle.eden_overlay_format.specs.Numbers.{none_is_own}
 use Rattle.eden_repair.specs.Covering.{CoversOn, IsNewThen}
-use Rattle.eden_repair.specs.Repairing.{Paths, AreOfNoUse, Forgets, HasNumber, HasNumbersAlone, IsDamagedSo, Mends, Sorts}
+use Rattle.eden_repair.specs.Repairing.{Way, AreOfNoUse, Forgets, HasNumber, HasNumbersAlone, IsDamagedSo, Mends, Sorts, way}
 use Rattle.std.specs.BTreeSet.{BTreeSet, contains}
 use Rattle.std.specs.Ordering.{nat_cmp}
 use Rattle.eden_model.specs.Trees.{Name}
@@ -33,45 +33,56 @@ Goes F was_met e d = ((e.origin ≡ origin.Own) × IsDamagedSo F e.number e.kind
 abbrev pub WereSeen : List ℕ → (ℕ → Bool) → Type 0
 WereSeen looked was_seen = (d : ℕ) → Contains looked d → was_seen d ≡ true
 
--- each directory that is left has one of the paths, and its number
-pub record AreLed (paths : Paths) (left : List Directory) : Type 0 where
-  pub each : (x : Directory) → Contains left x → Contains paths (x.number, x.path.items)
+-- the way to a directory
+abbrev pub way_of : Directory → Way
+way_of x = way x.number x.origin x.path.items
+
+-- one of the ways leads to each directory that is left
+pub record AreLed (ways : List Way) (left : List Directory) : Type 0 where
+  pub each : (x : Directory) → Contains left x → Contains ways (way_of x)
 
 -- own directories were mended so far; the numbers that were met are those of entries that stay, and each directory that was looked at was seen
-pub record Mended (F : Stored) (told : List Finding) (G : Stored) (was_met was_seen : ℕ → Bool) (left : List Directory) : Type 0 where
+pub record Mended (F : Stored) (first : List Way) (told : List Finding) (G : Stored) (was_met was_seen : ℕ → Bool) (left : List Directory)
+    : Type 0 where
   pub looked : List ℕ
-  pub paths : Paths
+  pub ways : List Way
   pub stayed : List StoredEntry
-  pub mends : Mends F looked paths stayed told G
+  pub mends : Mends F first looked ways stayed told G
   pub met : AreOf was_met stayed
   pub seen : WereSeen looked was_seen
-  pub led : AreLed paths left
+  pub led : AreLed ways left
 
 -- whatever was mended before that directory was looked at, more is mended then, with those below it left
 abbrev pub MendsOn : Directory → List Finding → Stored → BTreeSet ℕ → BTreeSet ℕ → List Finding → Stored → BTreeSet ℕ → BTreeSet ℕ → List Directory → Type 0
 MendsOn x told F was_met was_seen told_then G is_met is_seen below =
-    (begun : Stored) (rest : List Directory) → Mended begun told F (contains nat_cmp was_met) (contains nat_cmp was_seen) (x ∷ rest)
-    → Mended begun told_then G (contains nat_cmp is_met) (contains nat_cmp is_seen) (below ++ rest)
+    (begun : Stored) (first : List Way) (rest : List Directory)
+    → Mended begun first told F (contains nat_cmp was_met) (contains nat_cmp was_seen) (x ∷ rest)
+    → Mended begun first told_then G (contains nat_cmp is_met) (contains nat_cmp is_seen) (below ++ rest)
 
 -- own directories were mended so far, and these are left
-pub record IsMended (F : Stored) (told : List Finding) (G : Stored) (left : List Directory) : Type 0 where
+pub record IsMended (F : Stored) (first : List Way) (told : List Finding) (G : Stored) (left : List Directory) : Type 0 where
   pub looked : List ℕ
-  pub paths : Paths
+  pub ways : List Way
   pub stayed : List StoredEntry
-  pub mends : Mends F looked paths stayed told G
-  pub led : AreLed paths left
+  pub mends : Mends F first looked ways stayed told G
+  pub led : AreLed ways left
+
+-- the directory is one on a tree object
+pub record IsOnTree (x : Directory) : Type 0 where
+  pub tree : Id
+  pub from : x.origin ≡ origin.Object tree
 
 -- what was told grew by numbers that were forgotten, and these directories are left
-pub record ForgetsMore (F : Stored) (first : Paths) (before : List Finding) (G : Stored) (after : List Finding) (left : List Directory) : Type 0 where
-  pub paths : Paths
+pub record ForgetsMore (F : Stored) (first : List Way) (before : List Finding) (G : Stored) (after : List Finding) (left : List Directory) : Type 0 where
+  pub ways : List Way
   pub forgotten : List Finding
-  pub forgets : Forgets F first paths forgotten G
+  pub forgets : Forgets F first ways forgotten G
   pub told : after ≡ before ++ forgotten
-  pub led : AreLed paths left
+  pub led : AreLed ways left
 
 -- .. after that directory was looked at, with those below it left
 abbrev pub ForgetsOn : Directory → Stored → List Finding → Stored → List Finding → List Directory → Type 0
-ForgetsOn x F before G after below = (first : Paths) (rest : List Directory) → AreLed first (x ∷ rest) → ForgetsMore F first before G after (below ++ rest)
+ForgetsOn x F before G after below = (first : List Way) (rest : List Directory) → AreLed first (x ∷ rest) → ForgetsMore F first before G after (below ++ rest)
 
 -- the numbers that are met then: one more if the entry stays
 abbrev pub IsMetThen : ℕ → Option Damage → (ℕ → Bool) → (ℕ → Bool) → Type 0
@@ -81,7 +92,7 @@ IsMetThen k (Some d) was is = (q : ℕ) → is q ≡ was q
 -- an own directory takes the survey on, if each number that was met is an entry's
 abbrev pub CoversOwn : Directory → Stored → (ℕ → Bool) → (ℕ → Bool) → List Directory → Stored → (ℕ → Bool) → (ℕ → Bool) → Type 0
 CoversOwn x F was_met was_seen below G is_met is_seen =
-    x.origin ≡ origin.Own → (entries : List StoredEntry) → AreOf was_met entries → CoversOn x F was_met was_seen below G is_met is_seen
+    (entries : List StoredEntry) → AreOf was_met entries → CoversOn x F was_met was_seen below G is_met is_seen
 
 -- these entries are sorted so, and the numbers that were met are those of entries that stay
 pub record SortsOn (F : Stored) (at : List Name) (before entries : List StoredEntry) (s : Sorted) (was_met : ℕ → Bool) : Type 0 where

@@ -1,15 +1,16 @@
 //! Own directories: what can't be had is taken out of them.
-ghost use Rattle.std.specs.Prelude.{[], ◌≡◌, ◌≤◌, ◌+◌, ◌++◌, ℕ, None, Err, IfOk, IfSome, IsTrue, OnOk, OnErr, length};
+ghost use Rattle.std.specs.Prelude.{[], ◌≡◌, ◌≤◌, ◌+◌, ◌++◌, ℕ, List, None, Err, IfOk, IfSome, IsTrue, OnOk, OnErr, length};
 ghost use Rattle.std.specs.Ordering.{nat_cmp};
 ghost use Rattle.std.specs.BTreeSet.{contains, btree_set_len};
 ghost use Rattle.eden_model.specs.Failures.{Counted};
 ghost use Rattle.eden_model.specs.Limits.{number_end};
 ghost use Rattle.eden_model.specs.Numbers.{IsNumber};
+ghost use Rattle.eden_model.specs.declared.kind.Origin.TheVariants as origin;
 ghost use Rattle.eden_overlay_format.specs.Directory.{AreStorable};
 ghost use Rattle.eden_overlay.specs.Files.{Stored};
 ghost use Rattle.eden_overlay.specs.Held.{HoldsEntries, entries_at};
 ghost use Rattle.eden_overlay.specs.declared.files.FilesFault.TheVariants as fault;
-ghost use Rattle.eden_repair.specs.Repairing.{Stores};
+ghost use Rattle.eden_repair.specs.Repairing.{Way, Stores};
 ghost use Rattle.eden_repair.specs.Surveying.{CoversOwn, IsMended, MendsOn};
 
 use crate::finding::Finding;
@@ -85,6 +86,7 @@ pub(crate) fn mend_own<W: World, F: Files<W>>(
     directory: &Directory,
     found: &mut Vec<Finding>,
 ) -> Result<Vec<Directory>, FilesFault>
+    requires own { directory.now.origin ≡ origin.Own }
     requires met { (k : ℕ) → IsTrue (contains nat_cmp met.old k) → IsNumber k }
     requires few { btree_set_len met.old ≤ number_end }
     ensures mended { W.honest → IfOk result (λ v. MendsOn directory.now
@@ -93,9 +95,9 @@ pub(crate) fn mend_own<W: World, F: Files<W>>(
     ensures covered { W.honest → IfOk result (λ v. CoversOwn directory.now
         (F.stored files.old) (contains nat_cmp met.old) (contains nat_cmp seen.old) v.items
         (F.stored files.new) (contains nat_cmp met.new) (contains nat_cmp seen.new)) }
-    ensures so_far { W.honest → OnErr result ((begun : Stored)
-        → IsMended begun found.old.items (F.stored files.old) []
-        → IsMended begun found.new.items (F.stored files.new) []) }
+    ensures so_far { W.honest → OnErr result ((begun : Stored) (first : List Way)
+        → IsMended begun first found.old.items (F.stored files.old) []
+        → IsMended begun first found.new.items (F.stored files.new) []) }
     ensures more { IfOk result (λ v. btree_set_len met.old + length v.items ≤ btree_set_len met.new) }
     ensures range { OnOk result ((k : ℕ) → IsTrue (contains nat_cmp met.new k) → IsNumber k) }
     ensures few { OnOk result (btree_set_len met.new ≤ number_end) }

@@ -12,7 +12,7 @@ ghost use Rattle.eden_overlay.specs.Rescanning.{IsNextOf, IsRescanFault};
 ghost use Rattle.eden_overlay.specs.Soundness.{AreSound};
 ghost use Rattle.eden_overlay.specs.declared.files.FilesFault.TheVariants as fault;
 ghost use Rattle.eden_repair.specs.Covering.{CantBeMended, CoversThen, IsWhole, NoneIsOwn};
-ghost use Rattle.eden_repair.specs.Repairing.{Paths, IsRepaired, root_path};
+ghost use Rattle.eden_repair.specs.Repairing.{Way, IsRepaired};
 ghost use Rattle.eden_repair.specs.Surveying.{AreLed, ForgetsMore, IsMended};
 
 use crate::finding::Finding;
@@ -50,7 +50,7 @@ pub struct Repaired<F> {
 /// refuses only a root that can't be read, and files after which no number is left to give. Both are its `Damaged`, of
 /// file 1.
 pub fn repair<W: World, F: Files<W>>(alloc: Global, mut files: F, root: Id) -> Repaired<F>
-    ensures repaired { W.honest → IsRepaired (F.stored files) result.found.items (F.stored result.files) }
+    ensures repaired { W.honest → IsRepaired (F.stored files) root result.found.items (F.stored result.files) }
     ensures sound { W.honest → OnOk result.outcome (AreSound (F.stored result.files)) }
     ensures numbers { W.honest → OnOk result.outcome (NumbersAreSound (F.stored result.files) root) }
     ensures next { W.honest → IfOk result.outcome (IsNextOf (F.stored result.files) root) }
@@ -109,7 +109,7 @@ fn walk<W: World, F: Files<W>>(
     found: &mut Vec<Finding>,
 ) -> Result<(), FilesFault>
     requires { found.old.items ≡ [] }
-    ensures repaired { W.honest → IsRepaired (F.stored files.old) found.new.items (F.stored files.new) }
+    ensures repaired { W.honest → IsRepaired (F.stored files.old) root found.new.items (F.stored files.new) }
     ensures whole { W.honest → OnOk result (IsWhole (F.stored files.new) root) }
     ensures counted { Counted (result ≡ Err fault.Device) (F.failures files.old) (F.failures files.new) }
 {
@@ -130,10 +130,12 @@ fn walk_own<W: World, F: Files<W>>(
 ) -> Result<Vec<Directory>, FilesFault>
     requires met { met.old.keys ≡ [] }
     requires found { found.old.items ≡ [] }
-    requires led { AreLed root_path pending.items }
-    ensures mended { W.honest → IsMended (F.stored files.old) found.new.items (F.stored files.new) [] }
-    ensures led { W.honest
-        → IfOk result (λ saved. IsMended (F.stored files.old) found.new.items (F.stored files.new) saved.items) }
+    ensures mended { W.honest → (first : List Way)
+        → AreLed first pending.items
+        → IsMended (F.stored files.old) first found.new.items (F.stored files.new) [] }
+    ensures led { W.honest → IfOk result (λ saved. (first : List Way)
+        → AreLed first pending.items
+        → IsMended (F.stored files.old) first found.new.items (F.stored files.new) saved.items) }
     ensures covered { W.honest → IfOk result (λ saved. CoversThen
         pending.items (F.stored files.old) (contains nat_cmp met.old)
         saved.items (F.stored files.new) (contains nat_cmp met.new)) }
@@ -168,7 +170,7 @@ fn walk_saved<W: World, F: Files<W>>(
     requires met { (k : ℕ) → IsTrue (contains nat_cmp met.old k) → IsNumber k }
     requires none_own { NoneIsOwn pending.items }
     requires few { btree_set_len met.old ≤ number_end }
-    ensures forgets { W.honest → (first : Paths)
+    ensures forgets { W.honest → (first : List Way)
         → AreLed first pending.items
         → ForgetsMore (F.stored files.old) first found.old.items (F.stored files.new) found.new.items [] }
     ensures covered { W.honest → OnOk result (CoversThen

@@ -10,8 +10,8 @@ ghost use Rattle.eden_model.specs.declared.kind.Origin.TheVariants as origin;
 ghost use Rattle.eden_overlay.specs.Held.{without};
 ghost use Rattle.eden_overlay.specs.declared.files.FilesFault.TheVariants as fault;
 ghost use Rattle.eden_repair.specs.Covering.{AreBelow, AreNew, CoversOn, IsNewThen, NoneIsOwn, none_seen};
-ghost use Rattle.eden_repair.specs.Repairing.{AreOfNoUse, HasNumbersAlone, paths_below};
-ghost use Rattle.eden_repair.specs.Surveying.{AreLed, AreNumbers, AreOfTree, ForgetsOn};
+ghost use Rattle.eden_repair.specs.Repairing.{AreOfNoUse, HasNumbersAlone, ways_below};
+ghost use Rattle.eden_repair.specs.Surveying.{AreLed, AreNumbers, AreOfTree, ForgetsOn, IsOnTree};
 
 use crate::damage::Damage;
 use crate::finding::Finding;
@@ -109,7 +109,7 @@ fn take_in(
     ensures new { IfOk result
         (λ o. IfSome o (λ _. AreNew entries.items (contains nat_cmp met.old) (contains nat_cmp met.new))) }
     ensures below { IfOk result (λ o. IfSome o (λ v. AreBelow entries.items v.items)) }
-    ensures led { IfOk result (λ o. IfSome o (λ v. AreLed (paths_below path.now entries.items) v.items)) }
+    ensures led { IfOk result (λ o. IfSome o (λ v. AreLed (ways_below path.now entries.items) v.items)) }
     ensures stay { OnOk result ((k : ℕ) → IsTrue (contains nat_cmp met.old k) → IsTrue (contains nat_cmp met.new k)) }
     ensures more { IfOk result
         (λ o. IfSome o (λ v. btree_set_len met.old + length v.items ≤ btree_set_len met.new)) }
@@ -136,7 +136,8 @@ fn forget<W: World, F: Files<W>>(
     damage: Damage,
     found: &mut Vec<Finding>,
 ) -> Result<(), FilesFault>
-    requires { W.honest → AreOfNoUse (F.stored files.old) directory.number damage }
+    requires on_tree { IsOnTree directory }
+    requires no_use { W.honest → AreOfNoUse (F.stored files.old) directory.number damage }
     ensures gone { W.honest
         → OnOk result (F.stored files.new ≡ without (F.stored files.old) directory.number) }
     ensures forgets { W.honest
@@ -172,6 +173,7 @@ pub(crate) fn mend_saved<W: World, F: Files<W>>(
     tree: Id,
     found: &mut Vec<Finding>,
 ) -> Result<Vec<Directory>, FilesFault>
+    requires from { directory.origin ≡ origin.Object tree }
     requires met { (k : ℕ) → IsTrue (contains nat_cmp met.old k) → IsNumber k }
     requires few { btree_set_len met.old ≤ number_end }
     ensures forgets { W.honest → IfOk result (λ v.
@@ -179,7 +181,7 @@ pub(crate) fn mend_saved<W: World, F: Files<W>>(
     ensures so_far { W.honest → OnErr result
         (ForgetsOn directory (F.stored files.old) found.old.items (F.stored files.new) found.new.items []) }
     ensures none_own { IfOk result (λ below. NoneIsOwn below.items) }
-    ensures covered { W.honest → IfOk result (λ below. directory.origin ≡ origin.Object tree → CoversOn directory
+    ensures covered { W.honest → IfOk result (λ below. CoversOn directory
         (F.stored files.old) (contains nat_cmp met.old) none_seen below.items
         (F.stored files.new) (contains nat_cmp met.new) none_seen) }
     ensures more { IfOk result (λ v. btree_set_len met.old + length v.items ≤ btree_set_len met.new) }

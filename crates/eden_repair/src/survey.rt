@@ -12,7 +12,7 @@ ghost use Rattle.eden_overlay.specs.Files.{Stored};
 ghost use Rattle.eden_overlay.specs.Soundness.{HasOwn};
 ghost use Rattle.eden_overlay.specs.declared.files.FilesFault.TheVariants as fault;
 ghost use Rattle.eden_repair.specs.Covering.{AreBelow, AreNew};
-ghost use Rattle.eden_repair.specs.Repairing.{TellsOf, paths_below};
+ghost use Rattle.eden_repair.specs.Repairing.{TellsOf, ways_below};
 ghost use Rattle.eden_repair.specs.Surveying.{AreLed, AreOf, Goes, IsMetThen, SortsOn, SortsOneMore};
 
 use crate::damage::{Damage, damage_at};
@@ -87,7 +87,7 @@ pub(crate) fn sort_out<W: World, F: Files<W>>(
     requires few { btree_set_len met.old ≤ number_end }
     ensures new { IfOk result (λ s. AreNew s.listing (contains nat_cmp met.old) (contains nat_cmp met.new)) }
     ensures below { IfOk result (λ s. AreBelow s.listing s.below.items) }
-    ensures led { IfOk result (λ s. AreLed (paths_below path.now s.listing) s.below.items) }
+    ensures led { IfOk result (λ s. AreLed (ways_below path.now s.listing) s.below.items) }
     ensures sorts { W.honest → IfOk result (λ s. (stayed : List StoredEntry)
         → AreOf (contains nat_cmp met.old) stayed
         → SortsOn (F.stored files.old) path.now stayed entries.items s (contains nat_cmp met.new)) }
@@ -126,8 +126,8 @@ fn sort_one<W: World, F: Files<W>>(
         → AreNew s.listing first (contains nat_cmp met.new)) }
     ensures below { IfOk result
         (λ s. AreBelow sorted.listing sorted.below.items → AreBelow s.listing s.below.items) }
-    ensures led { IfOk result (λ s. AreLed (paths_below path.now sorted.listing) sorted.below.items
-        → AreLed (paths_below path.now s.listing) s.below.items) }
+    ensures led { IfOk result (λ s. AreLed (ways_below path.now sorted.listing) sorted.below.items
+        → AreLed (ways_below path.now s.listing) s.below.items) }
     ensures sorts { W.honest → IfOk result (λ s. SortsOneMore (F.stored files.old) path.now entry sorted s
         (contains nat_cmp met.old) (contains nat_cmp met.new)) }
     ensures more { IfOk result (λ s. btree_set_len met.old + length s.below.items
@@ -188,8 +188,8 @@ pub(crate) fn with_directory(
         → AreBelow entries below.items
         → AreBelow (entries ++ entry.now ∷ []) v.items) }
     ensures led { IfOk result (λ v. (entries : List StoredEntry)
-        → AreLed (paths_below path.now entries) below.items
-        → AreLed (paths_below path.now (entries ++ entry.now ∷ [])) v.items) }
+        → AreLed (ways_below path.now entries) below.items
+        → AreLed (ways_below path.now (entries ++ entry.now ∷ [])) v.items) }
     ensures short { IfOk result (λ v. length v.items ≤ length below.items + 1) }
 {
     match entry.kind {

@@ -3,11 +3,11 @@ use Rattle.std.specs.BTreeSet.{contains}
 use Rattle.eden_overlay.specs.Counting.{root_from}
 use Rattle.eden_overlay.specs.Files.{Stored}
 use Rattle.eden_overlay.specs.Held.{root_file}
-use Rattle.eden_repair.specs.Repairing.{IsRepaired, root_path}
+use Rattle.eden_repair.specs.Repairing.{IsRepaired, root_way}
 use Rattle.eden_repair.specs.Surveying.{AreLed}
 use Rattle.eden_repair.specs.Covering.{IsCovered, IsWhole, none_seen}
 use Rattle.eden_repair.proofs.Whole.{begins_with, whole}
-use Rattle.eden_repair.proofs.Steps.{untouched, mended_alone, repairs, top_led}
+use Rattle.eden_repair.proofs.Steps.{untouched, mended_alone, repairs, top_leads}
 use Rattle.eden_repair.proofs.repairing.walk.Goals as goal
 
 on_ok : {X Y : Type 0} (r : Result X Y) (P Q : Type 0) → (P → Q) → OnOk r P → OnOk r Q
@@ -16,30 +16,31 @@ on_ok (Err y) P Q so is = tt
 
 pub returns-in_err-top-clause-repaired : goal.returns-in_err-top-clause-repaired
 returns-in_err-top-clause-repaired g c = λ honest.
-    untouched (g.F.Files.stored c.args.files.now) (g.F.Files.stored c.top.new.files) c.args.found.now.items c.requires (c.in_err-top.ensures.unchanged honest)
+    untouched (g.F.Files.stored c.args.files.now) (g.F.Files.stored c.top.new.files) c.args.root c.args.found.now.items c.requires (c.in_err-top.ensures.unchanged honest)
 
 pub returns-in_err-push-clause-repaired : goal.returns-in_err-push-clause-repaired
 returns-in_err-push-clause-repaired g c = λ honest.
-    untouched (g.F.Files.stored c.args.files.now) (g.F.Files.stored c.top.new.files) c.args.found.now.items c.requires (c.top.ensures.unchanged honest)
+    untouched (g.F.Files.stored c.args.files.now) (g.F.Files.stored c.top.new.files) c.args.root c.args.found.now.items c.requires (c.top.ensures.unchanged honest)
 
 pub returns-in_err-saved-clause-repaired : goal.returns-in_err-saved-clause-repaired
 returns-in_err-saved-clause-repaired g c = λ honest.
-    let P : Stored → Type 0 = λ X. IsRepaired X c.walk_own.new.found.items (g.F.Files.stored c.walk_own.new.files) in
+    let x = c.in_ok-top.field-0 in
+    let P : Stored → Type 0 = λ X. IsRepaired X c.args.root c.walk_own.new.found.items (g.F.Files.stored c.walk_own.new.files) in
     subst P (c.top.ensures.unchanged honest)
-    (mended_alone (g.F.Files.stored c.top.new.files) (g.F.Files.stored c.walk_own.new.files) c.walk_own.new.found.items [] (c.in_err-saved.ensures.mended honest))
+    (mended_alone (g.F.Files.stored c.top.new.files) (g.F.Files.stored c.walk_own.new.files) c.args.root c.walk_own.new.found.items []
+    (c.in_err-saved.ensures.mended honest _ (top_leads (g.F.Files.stored c.args.files.now) (g.F.Files.stored c.top.new.files) c.args.root x c.push.new.self.items (c.top.ensures.unchanged honest)
+    (c.in_ok-push.ensures.items ∙ ap (λ l. l ++ x ∷ []) c.new-pending.ensures.items) c.in_ok-top.ensures.number (c.in_ok-top.ensures.from honest) c.in_ok-top.ensures.path)))
 
 pub returns-clause-repaired : goal.returns-clause-repaired
 returns-clause-repaired g c = λ honest.
-    let P : Stored → Type 0 = λ X. IsRepaired X c.walk_saved.new.found.items (g.F.Files.stored c.walk_saved.new.files) in
-    let m = c.in_ok-saved.ensures.led honest in
+    let x = c.in_ok-top.field-0 in
+    let P : Stored → Type 0 = λ X. IsRepaired X c.args.root c.walk_saved.new.found.items (g.F.Files.stored c.walk_saved.new.files) in
+    let m = c.in_ok-saved.ensures.led honest _
+    (top_leads (g.F.Files.stored c.args.files.now) (g.F.Files.stored c.top.new.files) c.args.root x c.push.new.self.items (c.top.ensures.unchanged honest)
+    (c.in_ok-push.ensures.items ∙ ap (λ l. l ++ x ∷ []) c.new-pending.ensures.items) c.in_ok-top.ensures.number (c.in_ok-top.ensures.from honest) c.in_ok-top.ensures.path) in
     subst P (c.top.ensures.unchanged honest)
-    (repairs (g.F.Files.stored c.top.new.files) (g.F.Files.stored c.walk_own.new.files) (g.F.Files.stored c.walk_saved.new.files) c.walk_own.new.found.items
-    c.walk_saved.new.found.items c.in_ok-saved.saved.items [] m (c.walk_saved.ensures.forgets honest m.paths m.led))
-
-pub walk_own-requires-clause-led : goal.walk_own-requires-clause-led
-walk_own-requires-clause-led g c =
-    subst (AreLed root_path) (sym (c.in_ok-push.ensures.items ∙ ap (λ l. l ++ c.in_ok-top.field-0 ∷ []) c.new-pending.ensures.items))
-    (top_led c.in_ok-top.field-0 c.in_ok-top.ensures.number c.in_ok-top.ensures.path)
+    (repairs (g.F.Files.stored c.top.new.files) (g.F.Files.stored c.walk_own.new.files) (g.F.Files.stored c.walk_saved.new.files) c.args.root c.walk_own.new.found.items
+    c.walk_saved.new.found.items c.in_ok-saved.saved.items [] m (c.walk_saved.ensures.forgets honest m.ways m.led))
 
 pub returns-clause-whole : goal.returns-clause-whole
 returns-clause-whole g c = λ honest.

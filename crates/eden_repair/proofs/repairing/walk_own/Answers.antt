@@ -1,20 +1,19 @@
-use Rattle.std.proofs.Common.{rules, [], ◌≡◌, ◌∙◌, ◌++◌, true, false, refl, sym, ap, subst, nat_cmp}
+use Rattle.std.proofs.Common.{rules, [], ◌≡◌, ◌∙◌, ◌++◌, true, false, map, refl, sym, ap, subst, nat_cmp}
 use Rattle.std.specs.List.{list_any}
 use Rattle.std.specs.BTreeMap.{is_at}
 use Rattle.std.specs.BTreeSet.{contains}
 use Rattle.eden_repair.specs.Covering.{IsCovered, NoneIsOwn, none_seen}
 use Rattle.eden_overlay.proofs.CallerLemmas.{contains_none, contains_rest}
-use Rattle.eden_repair.specs.Repairing.{root_path}
-use Rattle.eden_repair.specs.Surveying.{AreLed}
+use Rattle.eden_repair.specs.Surveying.{AreLed, way_of}
 use Rattle.eden_repair.proofs.Left.{aside_there, below_there, next_back}
-use Rattle.eden_repair.proofs.Steps.{begins, mended_less, none_there, so_far}
+use Rattle.eden_repair.proofs.Steps.{all_led, begins, mended_less, none_there, so_far}
 use Rattle.eden_repair.proofs.Whole.{below_up, empty_done, next_up, none_left, one_more, put_aside, unseen}
 use Rattle.eden_repair.proofs.repairing.walk_own.Goals as goal
 
 pub loop-directory-init : goal.loop-directory-init
 loop-directory-init g c = record {
-  mended = λ honest. begins (g.F.Files.stored c.args.files.now) c.args.found.now.items c.args.met.now c.new-seen.result (c.new-saved.result.items ++ c.args.pending.items) c.requires.found
-      c.requires.met c.new-seen.ensures.empty (subst (λ l. AreLed root_path (l ++ c.args.pending.items)) (sym c.new-saved.ensures.items) c.requires.led);
+  mended = λ honest first led. begins (g.F.Files.stored c.args.files.now) first c.args.found.now.items c.args.met.now c.new-seen.result (c.new-saved.result.items ++ c.args.pending.items)
+      c.requires.found c.requires.met c.new-seen.ensures.empty (subst (λ l. AreLed first (l ++ c.args.pending.items)) (sym c.new-saved.ensures.items) led);
   covered = λ honest root first.
       let F = g.F.Files.stored c.args.files.now in
       let met = contains nat_cmp c.args.met.now in
@@ -29,12 +28,13 @@ loop-directory-init g c = record {
 
 pub loop-directory-preserved-in-Some : goal.loop-directory-preserved-in-Some
 loop-directory-preserved-in-Some g c = record {
-  mended = λ honest.
+  mended = λ honest first led.
       let aside = c.loop-directory.saved.items in
       let before = c.pop.new.self.items in
-      let up = mended_less _ _ _ _ _ _ _ (next_back aside c.loop-directory.pending.items before c.in-Some.directory c.in-Some.ensures.items) (c.loop-directory.invariant.mended honest) in
-      mended_less _ _ _ _ _ _ _ (below_there c.in_ok-below-in-Own.below.items aside before c.append.new.self.items c.in_ok-append-in-Own.ensures.items)
-      (c.in_ok-below-in-Own.ensures.mended honest _ (aside ++ before) up);
+      let next = next_back aside c.loop-directory.pending.items before c.in-Some.directory c.in-Some.ensures.items in
+      let up = mended_less _ _ first _ _ _ _ _ next (c.loop-directory.invariant.mended honest first led) in
+      mended_less _ _ first _ _ _ _ _ (below_there c.in_ok-below-in-Own.below.items aside before c.append.new.self.items c.in_ok-append-in-Own.ensures.items)
+      (c.in_ok-below-in-Own.ensures.mended honest _ first (aside ++ before) up);
   covered = λ honest root first.
       let F = g.F.Files.stored c.loop-directory.files in
       let G = g.F.Files.stored c.mend_own.new.files in
@@ -43,11 +43,11 @@ loop-directory-preserved-in-Some g c = record {
       let before = c.pop.new.self.items in
       let met = contains nat_cmp c.loop-directory.met in
       let seen = contains nat_cmp c.loop-directory.seen in
-      let m = c.loop-directory.invariant.mended honest in
+      let m = c.loop-directory.invariant.mended honest (map way_of c.args.pending.items) (all_led c.args.pending.items) in
       let up = next_up F root met seen aside c.loop-directory.pending.items before x c.in-Some.ensures.items (c.loop-directory.invariant.covered honest root first) in
       subst (λ l. IsCovered G root (aside ++ l) (contains nat_cmp c.mend_own.new.met) (contains nat_cmp c.mend_own.new.seen)) (sym c.in_ok-append-in-Own.ensures.items)
       (below_up G root (contains nat_cmp c.mend_own.new.met) (contains nat_cmp c.mend_own.new.seen) c.in_ok-below-in-Own.below.items aside before
-      (c.in_ok-below-in-Own.ensures.covered honest c.in-Own.is m.stayed m.met root (aside ++ before) up));
+      (c.in_ok-below-in-Own.ensures.covered honest m.stayed m.met root (aside ++ before) up));
   none_own = c.loop-directory.invariant.none_own;
   range = search rules;
   few = search rules;
@@ -56,21 +56,19 @@ loop-directory-preserved-in-Some g c = record {
 
 pub loop-directory-preserved-in-Continue-branch-3 : goal.loop-directory-preserved-in-Continue-branch-3
 loop-directory-preserved-in-Continue-branch-3 g c = record {
-  mended = λ honest.
+  mended = λ honest first led.
       let aside = c.loop-directory.saved.items in
       let before = c.pop.new.self.items in
       let x = c.in-Some.directory in
       let all = aside_there aside before x c.push.new.self.items c.in_ok-push-in-Object.ensures.items in
-      mended_less _ _ _ _ _ _ _ (λ y there. next_back aside c.loop-directory.pending.items before x c.in-Some.ensures.items y (all y there)) (c.loop-directory.invariant.mended honest);
+      mended_less _ _ first _ _ _ _ _ (λ y there. next_back aside c.loop-directory.pending.items before x c.in-Some.ensures.items y (all y there))
+      (c.loop-directory.invariant.mended honest first led);
   covered = λ honest root first.
       let F = g.F.Files.stored c.loop-directory.files in
-      let x = c.in-Some.directory in
-      let aside = c.loop-directory.saved.items in
-      let before = c.pop.new.self.items in
-      let met = contains nat_cmp c.loop-directory.met in
-      let seen = contains nat_cmp c.loop-directory.seen in
-      subst (λ l. IsCovered F root (l ++ before) met seen) (sym c.in_ok-push-in-Object.ensures.items) (put_aside F root met seen aside before x
-      (next_up F root met seen aside c.loop-directory.pending.items before x c.in-Some.ensures.items (c.loop-directory.invariant.covered honest root first)));
+      let covered = IsCovered F root in
+      subst (λ l. covered (l ++ c.pop.new.self.items) (contains nat_cmp c.loop-directory.met) (contains nat_cmp c.loop-directory.seen)) (sym c.in_ok-push-in-Object.ensures.items)
+      (put_aside _ root _ _ c.loop-directory.saved.items _ c.in-Some.directory
+      (next_up _ root _ _ c.loop-directory.saved.items _ _ c.in-Some.directory c.in-Some.ensures.items (c.loop-directory.invariant.covered honest root first)));
   none_own = subst NoneIsOwn (sym c.in_ok-push-in-Object.ensures.items)
       (one_more c.loop-directory.saved.items c.in-Some.directory c.in-Object.field-0 c.in-Object.is c.loop-directory.invariant.none_own);
   range = search rules;
@@ -80,21 +78,15 @@ loop-directory-preserved-in-Continue-branch-3 g c = record {
 
 pub loop-directory-preserved : goal.loop-directory-preserved
 loop-directory-preserved g c = record {
-  mended = λ honest.
+  mended = λ honest first led.
       let aside = c.loop-directory.saved.items in
       let before = c.pop.new.self.items in
       let x = c.in-Some.directory in
-      mended_less _ _ _ _ _ _ _ (λ y there. next_back aside c.loop-directory.pending.items before x c.in-Some.ensures.items y (contains_rest x y (aside ++ before) there))
-      (c.loop-directory.invariant.mended honest);
+      mended_less _ _ first _ _ _ _ _ (λ y there. next_back aside c.loop-directory.pending.items before x c.in-Some.ensures.items y (contains_rest x y (aside ++ before) there))
+      (c.loop-directory.invariant.mended honest first led);
   covered = λ honest root first.
-      let F = g.F.Files.stored c.loop-directory.files in
-      let x = c.in-Some.directory in
-      let aside = c.loop-directory.saved.items in
-      let before = c.pop.new.self.items in
-      let met = contains nat_cmp c.loop-directory.met in
-      let seen = contains nat_cmp c.loop-directory.seen in
-      empty_done F root x (aside ++ before) met seen c.in-Empty.is
-      (next_up F root met seen aside c.loop-directory.pending.items before x c.in-Some.ensures.items (c.loop-directory.invariant.covered honest root first));
+      empty_done _ root c.in-Some.directory _ _ _ c.in-Empty.is
+      (next_up _ root _ _ c.loop-directory.saved.items _ _ c.in-Some.directory c.in-Some.ensures.items (c.loop-directory.invariant.covered honest root first));
   none_own = c.loop-directory.invariant.none_own;
   range = search rules;
   few = search rules;
@@ -102,8 +94,8 @@ loop-directory-preserved g c = record {
 }
 
 pub returns-in_err-append-in-Own-clause-mended : goal.returns-in_err-append-in-Own-clause-mended
-returns-in_err-append-in-Own-clause-mended g c = λ honest.
+returns-in_err-append-in-Own-clause-mended g c = λ honest first led.
     let aside = c.loop-directory.saved.items in
     let before = c.pop.new.self.items in
-    let up = mended_less _ _ _ _ _ _ _ (next_back aside c.loop-directory.pending.items before c.in-Some.directory c.in-Some.ensures.items) (c.loop-directory.invariant.mended honest) in
-    so_far _ _ _ _ _ _ [] (λ y there. absurd (contains_none y there)) (c.in_ok-below-in-Own.ensures.mended honest _ (aside ++ before) up)
+    let up = mended_less _ _ first _ _ _ _ _ (next_back aside c.loop-directory.pending.items before c.in-Some.directory c.in-Some.ensures.items) (c.loop-directory.invariant.mended honest first led) in
+    so_far _ _ first _ _ _ _ [] (λ y there. absurd (contains_none y there)) (c.in_ok-below-in-Own.ensures.mended honest _ first (aside ++ before) up)

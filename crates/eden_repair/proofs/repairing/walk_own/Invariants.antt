@@ -1,16 +1,17 @@
-use Rattle.std.proofs.Common.{◌≡◌, ◌≤◌, ◌+◌, ◌++◌, ◌*◌, ◌-◌, ℕ, IsTrue, length, nat_cmp, btree_set_len}
+use Rattle.std.proofs.Common.{◌≡◌, ◌≤◌, ◌+◌, ◌++◌, ◌*◌, ◌-◌, ℕ, List, IsTrue, length, nat_cmp, btree_set_len}
 use Rattle.std.specs.BTreeSet.{contains}
 use Rattle.eden_model.specs.Limits.{number_end}
 use Rattle.eden_model.specs.Numbers.{IsNumber}
 use Rattle.eden_model.specs.declared.id.Id.{Id}
 use Rattle.eden_repair.specs.Covering.{IsCovered, NoneIsOwn, none_seen}
-use Rattle.eden_repair.specs.Surveying.{Mended}
+use Rattle.eden_repair.specs.Repairing.{Way}
+use Rattle.eden_repair.specs.Surveying.{AreLed, Mended}
 use Rattle.eden_repair.proofs.repairing.walk_own.Given as goal
 
 abbrev pub invariant-loop-directory : goal.invariant-loop-directory
 invariant-loop-directory g l = record {
-  mended : g.W.World.honest → Mended (g.F.Files.stored l.fn.files) l.found.items (g.F.Files.stored l.files) (contains nat_cmp l.met) (contains nat_cmp l.seen)
-      (l.saved.items ++ l.pending.items);
+  mended : g.W.World.honest → (first : List Way) → AreLed first l.fn.pending.items
+      → Mended (g.F.Files.stored l.fn.files) first l.found.items (g.F.Files.stored l.files) (contains nat_cmp l.met) (contains nat_cmp l.seen) (l.saved.items ++ l.pending.items);
   covered : g.W.World.honest → (root : Id) → IsCovered (g.F.Files.stored l.fn.files) root l.fn.pending.items (contains nat_cmp l.fn.met) none_seen
       → IsCovered (g.F.Files.stored l.files) root (l.saved.items ++ l.pending.items) (contains nat_cmp l.met) (contains nat_cmp l.seen);
   none_own : NoneIsOwn l.saved.items;

@@ -46,7 +46,7 @@ loop-directory-preserved-in-Object g c = record {
       let up = next_up F root (contains nat_cmp c.loop-directory.met) none_seen [] c.loop-directory.pending.items before x c.in-Some.ensures.items
       (c.loop-directory.invariant.covered honest root first) in
       subst (λ l. IsCovered G root l met none_seen) (sym c.in_ok-append.ensures.items)
-      (below_up G root met none_seen c.in_ok-below.below.items [] before (c.in_ok-below.ensures.covered honest c.in-Object.is root before up));
+      (below_up G root met none_seen c.in_ok-below.below.items [] before (c.in_ok-below.ensures.covered honest root before up));
   none_own = subst NoneIsOwn (sym c.in_ok-append.ensures.items) (none_more c.pop.new.self.items c.in_ok-below.below.items
       (none_but c.loop-directory.pending.items c.pop.new.self.items c.in-Some.directory c.in-Some.ensures.items c.loop-directory.invariant.none_own) c.in_ok-below.ensures.none_own);
   range = search rules;

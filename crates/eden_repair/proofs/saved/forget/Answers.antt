@@ -9,8 +9,8 @@ returns-in_err-push-clause-forgets g c = λ honest.
 
 pub returns-in-Ok-clause-forgets : goal.returns-in-Ok-clause-forgets
 returns-in-Ok-clause-forgets g c = λ honest.
-    forgets_one (g.F.Files.stored c.args.files.now) (g.F.Files.stored c.remove.new.self) c.args.found.now.items c.push.new.self.items c.args.directory _ refl refl (c.requires honest) refl
-    (c.in-Ok.ensures.ok honest) c.in_ok-push.ensures.items
+    forgets_one (g.F.Files.stored c.args.files.now) (g.F.Files.stored c.remove.new.self) c.args.found.now.items c.push.new.self.items c.args.directory _ refl refl c.requires.on_tree
+    (c.requires.no_use honest) refl (c.in-Ok.ensures.ok honest) c.in_ok-push.ensures.items
 
 pub returns-in-Err-clause-forgets : goal.returns-in-Err-clause-forgets
 returns-in-Err-clause-forgets g c = λ honest.

@@ -1,6 +1,6 @@
 use Rattle.std.proofs.Common.{◌≡◌, ◌∙◌, ◌++◌, true, ◌∷◌, [], ℕ, Some, None, IfSome, sym, subst, nat_cmp}
 use Rattle.std.specs.BTreeSet.{contains}
-use Rattle.eden_repair.specs.Repairing.{HasNumber, Sorts, paths_below}
+use Rattle.eden_repair.specs.Repairing.{HasNumber, Sorts, ways_below}
 use Rattle.eden_repair.specs.Surveying.{AreLed, Goes, IsMetThen}
 use Rattle.eden_repair.specs.Covering.{AreBelow, AreNew}
 use Rattle.eden_repair.proofs.Covered.{new_still, one_new}
@@ -61,4 +61,4 @@ returns-clause-below g c = λ lower.
 
 pub returns-clause-led : goal.returns-clause-led
 returns-clause-led g c = λ led.
-    subst (λ l. AreLed (paths_below c.args.path.now l) c.in_ok-below.below.items) (sym c.in_ok-listing.ensures) (c.in_ok-below.ensures.led c.args.sorted.listing led)
+    subst (λ l. AreLed (ways_below c.args.path.now l) c.in_ok-below.below.items) (sym c.in_ok-listing.ensures) (c.in_ok-below.ensures.led c.args.sorted.listing led)

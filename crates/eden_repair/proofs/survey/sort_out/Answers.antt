@@ -5,7 +5,7 @@ use Rattle.std.proofs.lemmas.Iterator.Adapters.{YieldsList-from_vec}
 use Rattle.std.proofs.lemmas.Iterator.Consumers.{YieldsList-turn, YieldsList-end}
 use Rattle.eden_overlay_format.specs.Directory.{IsStorable}
 use Rattle.eden_overlay.specs.Files.{Stored}
-use Rattle.eden_repair.specs.Repairing.{Sorts, paths_below}
+use Rattle.eden_repair.specs.Repairing.{Sorts, ways_below}
 use Rattle.eden_repair.specs.Surveying.{AreOf, SortsOn}
 use Rattle.eden_repair.specs.Covering.{AreBelow, AreNew}
 use Rattle.eden_repair.proofs.Covered.{below_none, new_none}
@@ -20,7 +20,7 @@ entries-init g c =
     record {
       new = subst (λ l. AreNew l was was) (sym c.in_ok-new.ensures) (new_none was was (λ k had. had));
       below = subst (λ l. AreBelow l c.new-3.result.items) (sym c.in_ok-new.ensures) (subst (AreBelow []) (sym c.new-3.ensures.items) below_none);
-      led = led_none_of (paths_below at c.in_ok-new.field-0) c.new-3.result.items c.new-3.ensures.items;
+      led = led_none_of (ways_below at c.in_ok-new.field-0) c.new-3.result.items c.new-3.ensures.items;
       sorts = λ honest stayed met. record {
         sorts = subst (λ l. Sorts F at stayed [] l c.new-4.result.items) (sym c.in_ok-new.ensures) (subst (λ l. Sorts F at stayed [] [] l) (sym c.new-4.ensures.items) Sorts.none);
         met = subst (λ l. AreOf was (stayed ++ l)) (sym c.in_ok-new.ensures) (subst (AreOf was) (sym (append-nil stayed)) met);
