@@ -18,8 +18,8 @@ use Rattle.eden_overlay_format.specs.Directory.{AreStorable}
 use Rattle.eden_overlay.specs.Files.{Stored}
 use Rattle.eden_repair.specs.declared.damage.Damage.{Damage}
 use Rattle.eden_repair.specs.declared.finding.Finding.{Finding}
-use Rattle.eden_repair.specs.Repairing.{Way, AreOfNoUse, Forgets, HasNumber, IsRepaired, Mends, Sorts, Stores, TellsOf, root_way, way, ways_below}
-use Rattle.eden_repair.specs.Surveying.{AreLed, AreOf, ForgetsMore, ForgetsOn, Goes, IsMended, IsMetThen, IsOnTree, Mended, SortsOn, WereSeen, way_of}
+use Rattle.eden_repair.specs.Repairing.{Way, AreOfNoUse, Forgets, HasNumber, IsRepaired, Mends, Sorts, StandTwice, Stores, TellsOf, root_way, way, ways_below}
+use Rattle.eden_repair.specs.Surveying.{AreLed, AreMended, AreOf, ForgetsMore, ForgetsOn, ForgetsSome, Goes, IsMended, IsMetThen, Mended, SortsOn, TellsNumbers, WereSeen, way_of}
 use Rattle.eden_repair.specs.declared.survey.Directory.{Directory}
 use Rattle.eden_repair.specs.declared.survey.Sorted.{Sorted}
 use Rattle.eden_repair.proofs.Left.{AreAmong}
@@ -38,17 +38,33 @@ one_goes F at before entries kept cut e d f was sorts met (inr (twice, has)) tel
 has_more : (xs ys : List StoredEntry) (k : ℕ) → HasNumber xs k → HasNumber (xs ++ ys) k
 has_more xs ys k has = record { entry = has.entry; there = Contains-append_left xs ys has.entry has.there; number = has.number }
 
+-- the numbers that are met are those of one entry more
+pub one_of : (known entries : List StoredEntry) (e : StoredEntry) (was is : ℕ → Bool) → AreOf was (known ++ entries)
+    → ((k : ℕ) → is k ≡ true → (was k ≡ true) ⊎ (e.number ≡ k)) → AreOf is (known ++ (entries ++ e ∷ []))
+one_of known entries e was is are then k has = subst (λ l. HasNumber l k) (append_assoc known entries (e ∷ [])) (at (then k has)) where
+  at : (was k ≡ true) ⊎ (e.number ≡ k) → HasNumber ((known ++ entries) ++ e ∷ []) k
+  at (inl old) = has_more (known ++ entries) (e ∷ []) k (are k old)
+  at (inr own) = record { entry = e; there = Contains-push (known ++ entries) e; number = own }
+
 -- an entry that stays
 pub one_stays : (before kept : List StoredEntry) (e : StoredEntry) (was is : ℕ → Bool) → AreOf was (before ++ kept) → IsMetThen e.number None was is → AreOf is (before ++ (kept ++ e ∷ []))
-one_stays before kept e was is met then k has = at (same_or_apart e.number k) where
-  all : (before ++ kept) ++ e ∷ [] ≡ before ++ (kept ++ e ∷ [])
-  all = append_assoc before kept (e ∷ [])
+one_stays before kept e was is met then = one_of before kept e was is met (λ k has. elim (same_or_apart e.number k) [
+  | inl own ↦ inr own
+  | inr other ↦ inl (sym (then.1 k ∙ ap (λ b. cond b true (was k)) (ne_eqb e.number k other)) ∙ has)
+])
 
-  at : (e.number ≡ k) ⊎ (e.number ≢ k) → HasNumber (before ++ (kept ++ e ∷ [])) k
-  at (inl own) = subst (λ l. HasNumber l k) all (record { entry = e; there = Contains-push (before ++ kept) e; number = own })
-  at (inr other) =
-      let old : was k ≡ true = sym (then.1 k ∙ ap (λ b. cond b true (was k)) (ne_eqb e.number k other)) ∙ has in
-      subst (λ l. HasNumber l k) all (has_more (before ++ kept) (e ∷ []) k (met k old))
+-- an entry whose number was met
+pub twice_now : (known entries : List StoredEntry) (e : StoredEntry) (was : ℕ → Bool) → AreOf was (known ++ entries) → was e.number ≡ true → StandTwice known (entries ++ e ∷ [])
+twice_now known entries e was are has = record { before = entries; entry = e; after = []; all = refl; twice = are e.number has }
+
+pub twice_still : (known entries : List StoredEntry) (e : StoredEntry) → StandTwice known entries → StandTwice known (entries ++ e ∷ [])
+twice_still known entries e s = record {
+  before = s.before;
+  entry = s.entry;
+  after = s.after ++ e ∷ [];
+  all = ap (λ l. l ++ e ∷ []) s.all ∙ append_assoc s.before (s.entry ∷ s.after) (e ∷ []);
+  twice = s.twice;
+}
 
 -- what holds of each holds of one
 pub each_at : {X : Type 0} (P : X → Type 0) (xs : List X) (i : ℕ) (d : X) → AllByRecursion P xs → i < length xs → P (get_or xs i d)
@@ -206,6 +222,11 @@ pub so_far : (F G : Stored) (first : List Way) (told : List Finding) (met seen :
     → IsMended F first told G ys
 so_far F G first told met seen xs ys among m = record { looked = m.looked; ways = m.ways; stayed = m.stayed; mends = m.mends; led = led_less m.ways xs ys among m.led }
 
+pub all_so_far : (F G : Stored) (first : List Way) (told : List Finding) (met seen : ℕ → Bool) (xs ys : List Directory) → AreAmong ys xs → Mended F first told G met seen xs
+    → AreMended F first told G met ys
+unfolding so_far
+all_so_far F G first told met seen xs ys among m = record { mended = so_far F G first told met seen xs ys among m; met = m.met }
+
 -- nothing is in a set without keys
 pub none_there : (s : BTreeSet ℕ) → s.keys ≡ [] → (k : ℕ) → contains nat_cmp s k ≡ false
 none_there s empty k = ap (list_any (is_at (nat_cmp k))) empty
@@ -229,73 +250,113 @@ begins F first told met seen left none empty unseen led = record {
 pub taken_back : {X : Type 0} (told more all : List X) (n : ℕ) → n ≡ length told → all ≡ told ++ more → take n all ≡ told
 taken_back told more all n long is = ap (λ l. take n l) is ∙ ap (λ m. take m (told ++ more)) long ∙ take-append_seam told more
 
-pub forgets_none : (F G : Stored) (first : List Way) (told after : List Finding) (left : List Directory) → G ≡ F → after ≡ told → AreLed first left → ForgetsMore F first told G after left
-forgets_none F G first told after left same untold led = record {
+pub some_none : (F G : Stored) (first : List Way) (stayed : List StoredEntry) (told after : List Finding) → G ≡ F → after ≡ told → ForgetsSome F first stayed told G after
+some_none F G first stayed told after same untold = record {
   ways = first;
+  met = stayed;
   forgotten = [];
-  forgets = subst (λ (X : Stored). Forgets F first first [] X) (sym same) Forgets.begun;
+  forgets = subst (λ (X : Stored). Forgets F first stayed first stayed [] X) (sym same) Forgets.begun;
   told = untold ∙ sym (append-nil told);
-  led = led;
 }
+
+pub forgets_none : (F G : Stored) (first : List Way) (stayed : List StoredEntry) (told after : List Finding) (was : ℕ → Bool) (left : List Directory) → G ≡ F → after ≡ told
+    → AreLed first left → AreOf was stayed → ForgetsMore F first stayed told G after was left
+unfolding some_none
+forgets_none F G first stayed told after was left same untold led are = record { some = some_none F G first stayed told after same untold; led = led; are = are }
 
 -- where nothing comes of a directory
-pub forgets_bare : (F G : Stored) (told after : List Finding) (x : Directory) (below : List Directory) → G ≡ F → after ≡ told → below ≡ [] → ForgetsOn x F told G after below
-forgets_bare F G told after x below same untold none first rest led =
-    subst (λ l. ForgetsMore F first told G after (l ++ rest)) (sym none)
-    (forgets_none F G first told after rest same untold (led_less first (x ∷ rest) rest (λ y there. contains_rest x y rest there) led))
+pub forgets_bare : (F G : Stored) (told after : List Finding) (was : ℕ → Bool) (x : Directory) (below : List Directory) → G ≡ F → after ≡ told → below ≡ []
+    → ForgetsOn x F was told G was after below
+forgets_bare F G told after was x below same untold none first stayed rest led are =
+    subst (λ l. ForgetsMore F first stayed told G after was (l ++ rest)) (sym none)
+    (forgets_none F G first stayed told after was rest same untold (led_less first (x ∷ rest) rest (λ y there. contains_rest x y rest there) led) are)
 
-pub forgets_one : (F G : Stored) (told after : List Finding) (x : Directory) (f : Finding) → f.number ≡ x.number → f.path.items ≡ x.path.items → IsOnTree x
-    → AreOfNoUse F f.number f.damage → f.is_numbers ≡ true → G ≡ without F f.number → after ≡ told ++ f ∷ [] → ForgetsOn x F told G after []
-forgets_one F G told after x f number path on useless numbers stored more first rest led =
-    let at : Contains first (way f.number (origin.Object on.tree) f.path.items) =
-    subst (Contains first) (same_way x.number f.number x.origin (origin.Object on.tree) x.path.items f.path.items number (sym on.from) path) (led.each x (contains_first x rest)) in
-    record {
-      ways = first;
-      forgotten = f ∷ [];
-      forgets = subst (λ (X : Stored). Forgets F first first (f ∷ []) X) (sym stored) (Forgets.forgotten first [] F f on.tree Forgets.begun at useless numbers);
-      told = more;
+pub forgets_one : (F G : Stored) (told after : List Finding) (was is : ℕ → Bool) (x : Directory) (tree : Id) (entries : List StoredEntry) (below : List Directory) (d : Damage)
+    → x.origin ≡ origin.Object tree → ((met : List StoredEntry) → AreOf was met → AreOfNoUse F x.number tree met entries d) → G ≡ without F x.number → TellsNumbers x d told after
+    → ((met : List StoredEntry) → AreOf was met → AreOf is (met ++ entries)) → below ≡ [] → ForgetsOn x F was told G is after below
+forgets_one F G told after was is x tree entries below d from useless gone t all none first stayed rest led are =
+    let f = t.finding in
+    let at : Contains first (way f.number (origin.Object tree) f.path.items) =
+    subst (Contains first) (same_way x.number f.number x.origin (origin.Object tree) x.path.items f.path.items t.number (sym from) t.path) (led.each x (contains_first x rest)) in
+    let no_use : AreOfNoUse F f.number tree stayed entries f.damage =
+    subst (λ (k : ℕ). AreOfNoUse F k tree stayed entries f.damage) (sym t.number) (subst (AreOfNoUse F x.number tree stayed entries) (sym t.damage) (useless stayed are)) in
+    let is_gone : G ≡ without F f.number = subst (λ (k : ℕ). G ≡ without F k) (sym t.number) gone in
+    subst (λ l. ForgetsMore F first stayed told G after is (l ++ rest)) (sym none) (record {
+      some = record {
+        ways = first;
+        met = stayed ++ entries;
+        forgotten = f ∷ [];
+        forgets = subst (λ (X : Stored). Forgets F first stayed first (stayed ++ entries) (f ∷ []) X) (sym is_gone)
+            (Forgets.forgotten first stayed [] F f tree entries Forgets.begun at no_use t.is_numbers);
+        told = t.more;
+      };
       led = led_less first (x ∷ rest) rest (λ y there. contains_rest x y rest there) led;
-    }
+      are = all stayed are;
+    })
 
 -- numbers that stay
-pub forgets_saved : (F G : Stored) (told after : List Finding) (x : Directory) (tree : Id) (entries : List StoredEntry) (below : List Directory) → G ≡ F → after ≡ told
-    → x.origin ≡ origin.Object tree → saved_at F x.number tree ≡ Some entries → AreLed (ways_below x.path.items entries) below → ForgetsOn x F told G after below
-forgets_saved F G told after x tree entries below same untold from saved new first rest led = record {
-  ways = first ++ ways_below x.path.items entries;
-  forgotten = [];
-  forgets = subst (λ (X : Stored). Forgets F first (first ++ ways_below x.path.items entries) [] X) (sym same)
-      (Forgets.saved first [] F x.number x.path.items tree entries Forgets.begun
-      (subst (λ o. Contains first (way x.number o x.path.items)) from (led.each x (contains_first x rest))) saved);
-  told = untold ∙ sym (append-nil told);
-  led = led_on first (ways_below x.path.items entries) x below rest led new;
-}
-
--- one after another
-forgets_on : (F G : Stored) (first mid : List Way) (some : List Finding) → Forgets F first mid some G → (H : Stored) (last : List Way) (rest : List Finding)
-    → Forgets G mid last rest H → Forgets F first last (some ++ rest) H
-forgets_on F G first mid some one H last rest Forgets.begun = subst (λ l. Forgets F first mid l G) (sym (append-nil some)) one
-forgets_on F G first mid some one H last rest (Forgets.saved ways told X d at tree entries two there saved) =
-    Forgets.saved ways (some ++ told) X d at tree entries (forgets_on F G first mid some one X ways told two) there saved
-forgets_on F G first mid some one H last rest (Forgets.forgotten ways told X f tree two there useless numbers) =
-    subst (λ l. Forgets F first ways l (without X f.number)) (append_assoc some told (f ∷ []))
-    (Forgets.forgotten ways (some ++ told) X f tree (forgets_on F G first mid some one X ways told two) there useless numbers)
-
--- .. of the directories that are left the one that is looked at, with those below it behind the others
-pub forgets_then : (F G H : Stored) (first : List Way) (told mid after : List Finding) (left rest below xs : List Directory) (x : Directory) → AreAmong (x ∷ rest) left
-    → AreAmong xs (below ++ rest) → ForgetsMore F first told G mid left → ForgetsOn x G mid H after below → ForgetsMore F first told H after xs
-forgets_then F G H first told mid after left rest below xs x up among one on =
-    let two = on one.ways rest (led_less one.ways left (x ∷ rest) up one.led) in
+pub forgets_saved : (F G : Stored) (told after : List Finding) (was is : ℕ → Bool) (x : Directory) (tree : Id) (entries : List StoredEntry) (below : List Directory) → G ≡ F → after ≡ told
+    → x.origin ≡ origin.Object tree → saved_at F x.number tree ≡ Some entries → AreLed (ways_below x.path.items entries) below
+    → ((met : List StoredEntry) → AreOf was met → AreOf is (met ++ entries)) → ForgetsOn x F was told G is after below
+forgets_saved F G told after was is x tree entries below same untold from saved new all first stayed rest led are =
+    let at = subst (λ o. Contains first (way x.number o x.path.items)) from (led.each x (contains_first x rest)) in
     record {
-      ways = two.ways;
-      forgotten = one.forgotten ++ two.forgotten;
-      forgets = forgets_on F G first one.ways one.forgotten one.forgets H two.ways two.forgotten two.forgets;
-      told = two.told ∙ ap (λ l. l ++ two.forgotten) one.told ∙ append_assoc told one.forgotten two.forgotten;
-      led = led_less two.ways (below ++ rest) xs among two.led;
+      some = record {
+        ways = first ++ ways_below x.path.items entries;
+        met = stayed ++ entries;
+        forgotten = [];
+        forgets = subst (λ (X : Stored). Forgets F first stayed (first ++ ways_below x.path.items entries) (stayed ++ entries) [] X) (sym same)
+            (Forgets.saved first stayed [] F x.number x.path.items tree entries Forgets.begun at saved);
+        told = untold ∙ sym (append-nil told);
+      };
+      led = led_on first (ways_below x.path.items entries) x below rest led new;
+      are = all stayed are;
     }
 
-pub forgets_less : (F G : Stored) (first : List Way) (told after : List Finding) (xs ys : List Directory) → AreAmong ys xs → ForgetsMore F first told G after xs
-    → ForgetsMore F first told G after ys
-forgets_less F G first told after xs ys among m = record { ways = m.ways; forgotten = m.forgotten; forgets = m.forgets; told = m.told; led = led_less m.ways xs ys among m.led }
+-- one after another
+forgets_on : (F G : Stored) (first mid : List Way) (stayed met : List StoredEntry) (some : List Finding) → Forgets F first stayed mid met some G → (H : Stored) (last : List Way)
+    (all : List StoredEntry) (rest : List Finding) → Forgets G mid met last all rest H → Forgets F first stayed last all (some ++ rest) H
+forgets_on F G first mid stayed met some one H last all rest Forgets.begun = subst (λ l. Forgets F first stayed mid met l G) (sym (append-nil some)) one
+forgets_on F G first mid stayed met some one H last all rest (Forgets.saved ways known told X d at tree entries two there saved) =
+    Forgets.saved ways known (some ++ told) X d at tree entries (forgets_on F G first mid stayed met some one X ways known told two) there saved
+forgets_on F G first mid stayed met some one H last all rest (Forgets.forgotten ways known told X f tree entries two there useless numbers) =
+    subst (λ l. Forgets F first stayed ways (known ++ entries) l (without X f.number)) (append_assoc some told (f ∷ []))
+    (Forgets.forgotten ways known (some ++ told) X f tree entries (forgets_on F G first mid stayed met some one X ways known told two) there useless numbers)
+
+-- .. of the directories that are left the one that is looked at, with those below it behind the others
+pub forgets_then : (F G H : Stored) (first : List Way) (stayed : List StoredEntry) (told mid after : List Finding) (was is : ℕ → Bool) (left rest below xs : List Directory) (x : Directory)
+    → AreAmong (x ∷ rest) left → AreAmong xs (below ++ rest) → ForgetsMore F first stayed told G mid was left → ForgetsOn x G was mid H is after below
+    → ForgetsMore F first stayed told H after is xs
+forgets_then F G H first stayed told mid after was is left rest below xs x up among m on =
+    let one = m.some in
+    let n = on one.ways one.met rest (led_less one.ways left (x ∷ rest) up m.led) m.are in
+    let two = n.some in
+    record {
+      some = record {
+        ways = two.ways;
+        met = two.met;
+        forgotten = one.forgotten ++ two.forgotten;
+        forgets = forgets_on F G first one.ways stayed one.met one.forgotten one.forgets H two.ways two.met two.forgotten two.forgets;
+        told = two.told ∙ ap (λ l. l ++ two.forgotten) one.told ∙ append_assoc told one.forgotten two.forgotten;
+      };
+      led = led_less two.ways (below ++ rest) xs among n.led;
+      are = n.are;
+    }
+
+-- .. and nothing more
+pub some_still : (F G H : Stored) (first : List Way) (stayed : List StoredEntry) (told mid after : List Finding) → ForgetsSome F first stayed told G mid → H ≡ G → after ≡ mid
+    → ForgetsSome F first stayed told H after
+some_still F G H first stayed told mid after s same untold = record {
+  ways = s.ways;
+  met = s.met;
+  forgotten = s.forgotten;
+  forgets = subst (Forgets F first stayed s.ways s.met s.forgotten) (sym same) s.forgets;
+  told = untold ∙ s.told;
+}
+
+pub forgets_less : (F G : Stored) (first : List Way) (stayed : List StoredEntry) (told after : List Finding) (was : ℕ → Bool) (xs ys : List Directory) → AreAmong ys xs
+    → ForgetsMore F first stayed told G after was xs → ForgetsMore F first stayed told G after was ys
+forgets_less F G first stayed told after was xs ys among m = record { some = m.some; led = led_less m.some.ways xs ys among m.led; are = m.are }
 
 pub on_err : {X Y : Type 0} (r : Result X Y) (P : Type 0) → P → OnErr r P
 on_err (Ok x) P is = tt
@@ -303,15 +364,16 @@ on_err (Err y) P is = is
 
 -- ---- the whole
 
-pub repairs : (F G H : Stored) (root : Id) (cut told : List Finding) (left rest : List Directory) → (m : IsMended F (root_way root F) cut G left) → ForgetsMore G m.ways cut H told rest
+pub repairs : (F G H : Stored) (root : Id) (cut told : List Finding) (left : List Directory) → (m : IsMended F (root_way root F) cut G left) → ForgetsSome G m.ways m.stayed cut H told
     → IsRepaired F root told H
-repairs F G H root cut told left rest m f = record {
+repairs F G H root cut told left m f = record {
   looked = m.looked;
   ways = m.ways;
   stayed = m.stayed;
   cut = cut;
   between = G;
   last = f.ways;
+  met = f.met;
   forgotten = f.forgotten;
   mends = m.mends;
   forgets = f.forgets;
@@ -319,7 +381,7 @@ repairs F G H root cut told left rest m f = record {
 }
 
 pub mended_alone : (F G : Stored) (root : Id) (told : List Finding) (left : List Directory) → IsMended F (root_way root F) told G left → IsRepaired F root told G
-mended_alone F G root told left m = repairs F G G root told told left [] m (forgets_none G G m.ways told told [] refl refl (led_none m.ways))
+mended_alone F G root told left m = repairs F G G root told told left m (some_none G G m.ways m.stayed told told refl refl)
 
 pub untouched : (F G : Stored) (root : Id) (told : List Finding) → told ≡ [] → G ≡ F → IsRepaired F root told G
 untouched F G root told none same =

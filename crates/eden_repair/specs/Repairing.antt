@@ -1,5 +1,5 @@
 -- What a repair takes out of an overlay's files, and why.
-use Rattle.std.specs.Prelude.{◌≡◌, ◌++◌, ℕ, true, List, [], ◌∷◌, map, Some, None, IsSomeAnd, Contains}
+use Rattle.std.specs.Prelude.{◌≡◌, ◌++◌, ℕ, true, false, List, [], ◌∷◌, map, Some, None, IsSomeAnd, Contains}
 use Rattle.eden_model.specs.declared.id.Id.{Id}
 use Rattle.eden_model.specs.Trees.{Name}
 use Rattle.eden_model.specs.declared.kind.Kind.{Kind}
@@ -37,6 +37,7 @@ pub record TellsOf (at : List Name) (e : StoredEntry) (d : Damage) (f : Finding)
   pub path : f.path.items ≡ at ++ e.name ∷ []
   pub number : f.number ≡ e.number
   pub damage : f.damage ≡ d
+  pub is_cut : f.is_numbers ≡ false
 
 -- Of a directory's entries, one after another, some stay, and of each other is told why it goes: its own file isn't there, or is damaged;
 -- or it has the number of one that stays, in this directory or in one that was looked at before.
@@ -85,23 +86,34 @@ pub data Mends (F : Stored) (first : List Way) : List ℕ → List Way → List 
       → Sorts G at stayed entries kept cut → Stores G d kept cut H
       → Mends F first (d ∷ looked) (ways ++ ways_below at kept) (stayed ++ kept) (told ++ cut) H
 
--- Numbers of a directory on a tree object that stand alone in file k can't be used: they can't be read, for that reason, or one of them is
--- an entry's that was met before.
-abbrev pub AreOfNoUse : Stored → ℕ → Damage → Type 0
-AreOfNoUse F k damage.Missing = ⊥
-AreOfNoUse F k (damage.Damaged refusal) = HasNumbersAlone F k × IsSomeAnd (F k) (λ bytes. Refuses identifier.Numbers numbers_in bytes refusal)
-AreOfNoUse F k damage.Twice = HasNumbersAlone F k
+-- one of the entries has the number of one that was met, or of one before it
+pub record StandTwice (met entries : List StoredEntry) : Type 0 where
+  pub before : List StoredEntry
+  pub entry : StoredEntry
+  pub after : List StoredEntry
+  pub all : entries ≡ before ++ entry ∷ after
+  pub twice : HasNumber (met ++ before) entry.number
+
+-- Numbers of a directory on that tree object stand alone in file k, and can't be used: they can't be read, for that reason, so that none of
+-- them is met; or they are these entries', of which one has a number that was met.
+abbrev pub AreOfNoUse : Stored → ℕ → Id → List StoredEntry → List StoredEntry → Damage → Type 0
+AreOfNoUse F k tree met entries damage.Missing = ⊥
+AreOfNoUse F k tree met entries (damage.Damaged refusal) =
+    HasNumbersAlone F k × (IsSomeAnd (F k) (λ bytes. Refuses identifier.Numbers numbers_in bytes refusal) × (entries ≡ []))
+AreOfNoUse F k tree met entries damage.Twice = HasNumbersAlone F k × ((saved_at F k tree ≡ Some entries) × StandTwice met entries)
 
 -- The files F became G, by one directory with such numbers after another: they are saved for its tree object, and their entries stay, with
--- their ways; or they are of no use, which is told, and are gone. The ways are first those of what stays in own directories.
-pub data Forgets (F : Stored) (first : List Way) : List Way → List Finding → Stored → Type 0 where
-  begun : Forgets F first first [] F
-  saved : (ways : List Way) (told : List Finding) (G : Stored) (d : ℕ) (at : List Name) (tree : Id) (entries : List StoredEntry)
-      → Forgets F first ways told G → Contains ways (way d (origin.Object tree) at) → saved_at G d tree ≡ Some entries
-      → Forgets F first (ways ++ ways_below at entries) told G
-  forgotten : (ways : List Way) (told : List Finding) (G : Stored) (f : Finding) (tree : Id)
-      → Forgets F first ways told G → Contains ways (way f.number (origin.Object tree) f.path.items)
-      → AreOfNoUse G f.number f.damage → f.is_numbers ≡ true → Forgets F first ways (told ++ f ∷ []) (without G f.number)
+-- their ways; or they are of no use, which is told, and are gone. Listed are the ways, and the entries that were met; both are first those
+-- of what stays in own directories.
+pub data Forgets (F : Stored) (first : List Way) (stayed : List StoredEntry) : List Way → List StoredEntry → List Finding → Stored → Type 0 where
+  begun : Forgets F first stayed first stayed [] F
+  saved : (ways : List Way) (met : List StoredEntry) (told : List Finding) (G : Stored) (d : ℕ) (at : List Name) (tree : Id) (entries : List StoredEntry)
+      → Forgets F first stayed ways met told G → Contains ways (way d (origin.Object tree) at) → saved_at G d tree ≡ Some entries
+      → Forgets F first stayed (ways ++ ways_below at entries) (met ++ entries) told G
+  forgotten : (ways : List Way) (met : List StoredEntry) (told : List Finding) (G : Stored) (f : Finding) (tree : Id) (entries : List StoredEntry)
+      → Forgets F first stayed ways met told G → Contains ways (way f.number (origin.Object tree) f.path.items)
+      → AreOfNoUse G f.number tree met entries f.damage → f.is_numbers ≡ true
+      → Forgets F first stayed ways (met ++ entries) (told ++ f ∷ []) (without G f.number)
 
 -- the files F, over that commit's tree, became G, and all that was taken out is told: first own directories were mended, from the root on,
 -- and then numbers forgotten
@@ -112,7 +124,8 @@ pub record IsRepaired (F : Stored) (root : Id) (told : List Finding) (G : Stored
   pub cut : List Finding
   pub between : Stored
   pub last : List Way
+  pub met : List StoredEntry
   pub forgotten : List Finding
   pub mends : Mends F (root_way root F) looked ways stayed cut between
-  pub forgets : Forgets between ways last forgotten G
+  pub forgets : Forgets between ways stayed last met forgotten G
   pub all : told ≡ cut ++ forgotten

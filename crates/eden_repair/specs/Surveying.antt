@@ -67,22 +67,45 @@ pub record IsMended (F : Stored) (first : List Way) (told : List Finding) (G : S
   pub mends : Mends F first looked ways stayed told G
   pub led : AreLed ways left
 
--- the directory is one on a tree object
-pub record IsOnTree (x : Directory) : Type 0 where
-  pub tree : Id
-  pub from : x.origin ≡ origin.Object tree
+-- .. and the numbers that were met are those of entries that stay
+pub record AreMended (F : Stored) (first : List Way) (told : List Finding) (G : Stored) (was_met : ℕ → Bool) (left : List Directory) : Type 0 where
+  pub mended : IsMended F first told G left
+  pub met : AreOf was_met mended.stayed
 
--- what was told grew by numbers that were forgotten, and these directories are left
-pub record ForgetsMore (F : Stored) (first : List Way) (before : List Finding) (G : Stored) (after : List Finding) (left : List Directory) : Type 0 where
+-- what was told grew by numbers that were forgotten
+pub record ForgetsSome (F : Stored) (first : List Way) (stayed : List StoredEntry) (before : List Finding) (G : Stored) (after : List Finding) : Type 0 where
   pub ways : List Way
+  pub met : List StoredEntry
   pub forgotten : List Finding
-  pub forgets : Forgets F first ways forgotten G
+  pub forgets : Forgets F first stayed ways met forgotten G
   pub told : after ≡ before ++ forgotten
-  pub led : AreLed ways left
+
+-- .. after these directories, and those below them, were looked at
+abbrev pub ForgetsThen : List Directory → Stored → (ℕ → Bool) → List Finding → Stored → List Finding → Type 0
+ForgetsThen left F was_met before G after =
+    (first : List Way) (stayed : List StoredEntry) → AreLed first left → AreOf was_met stayed → ForgetsSome F first stayed before G after
+
+-- .. and these directories are left, and the numbers that were met are entries'
+pub record ForgetsMore (F : Stored) (first : List Way) (stayed : List StoredEntry) (before : List Finding) (G : Stored) (after : List Finding)
+    (was_met : ℕ → Bool) (left : List Directory) : Type 0 where
+  pub some : ForgetsSome F first stayed before G after
+  pub led : AreLed some.ways left
+  pub are : AreOf was_met some.met
 
 -- .. after that directory was looked at, with those below it left
-abbrev pub ForgetsOn : Directory → Stored → List Finding → Stored → List Finding → List Directory → Type 0
-ForgetsOn x F before G after below = (first : List Way) (rest : List Directory) → AreLed first (x ∷ rest) → ForgetsMore F first before G after (below ++ rest)
+abbrev pub ForgetsOn : Directory → Stored → (ℕ → Bool) → List Finding → Stored → (ℕ → Bool) → List Finding → List Directory → Type 0
+ForgetsOn x F was_met before G is_met after below =
+    (first : List Way) (stayed : List StoredEntry) (rest : List Directory) → AreLed first (x ∷ rest) → AreOf was_met stayed
+    → ForgetsMore F first stayed before G after is_met (below ++ rest)
+
+-- it is told that the directory's numbers are forgotten, for that reason
+pub record TellsNumbers (x : Directory) (d : Damage) (before after : List Finding) : Type 0 where
+  pub finding : Finding
+  pub more : after ≡ before ++ finding ∷ []
+  pub path : finding.path.items ≡ x.path.items
+  pub number : finding.number ≡ x.number
+  pub damage : finding.damage ≡ d
+  pub is_numbers : finding.is_numbers ≡ true
 
 -- the numbers that are met then: one more if the entry stays
 abbrev pub IsMetThen : ℕ → Option Damage → (ℕ → Bool) → (ℕ → Bool) → Type 0
@@ -110,7 +133,7 @@ SortsOneMore F at e s t was_met is_met =
 abbrev pub AreNumbers : Stored → ℕ → Id → Numbers → Type 0
 AreNumbers F k tree numbers.None = (saved_at F k tree ≡ None) × HasGoodNumbers (F k)
 AreNumbers F k tree (numbers.Entries entries) = HasNumbersAlone F k × ((saved_at F k tree ≡ Some entries.items) × HasGoodNumbers (F k))
-AreNumbers F k tree (numbers.Refused refusal) = AreOfNoUse F k (damage.Damaged refusal)
+AreNumbers F k tree (numbers.Refused refusal) = AreOfNoUse F k tree [] [] (damage.Damaged refusal)
 
 -- the entries that were had are those of a directory on a tree object
 abbrev pub AreOfTree : Numbers → Type 0

@@ -21,7 +21,7 @@ pub enum Damage {
     /// Its file is stored, and isn't what the entry says.
     #[error("damaged: {0}")]
     Damaged(Refusal),
-    /// An entry that stays has the same number.
+    /// An entry that was looked at before has the same number.
     #[error("named twice")]
     Twice,
 }

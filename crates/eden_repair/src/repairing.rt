@@ -13,7 +13,7 @@ ghost use Rattle.eden_overlay.specs.Soundness.{AreSound};
 ghost use Rattle.eden_overlay.specs.declared.files.FilesFault.TheVariants as fault;
 ghost use Rattle.eden_repair.specs.Covering.{CantBeMended, CoversThen, IsWhole, NoneIsOwn};
 ghost use Rattle.eden_repair.specs.Repairing.{Way, IsRepaired};
-ghost use Rattle.eden_repair.specs.Surveying.{AreLed, ForgetsMore, IsMended};
+ghost use Rattle.eden_repair.specs.Surveying.{AreLed, AreMended, ForgetsThen, IsMended};
 
 use crate::finding::Finding;
 use crate::own::mend_own;
@@ -43,7 +43,8 @@ pub struct Repaired<F> {
 ///
 /// An entry goes if its own file is missing or damaged, or if an entry that was met before has its number. First all
 /// own directories are looked at, from the root down; then those on tree objects, whose numbers are forgotten if they
-/// can't be read. Each content is read, and once more by the rescan. The state, file 0, isn't looked at.
+/// can't be read, or if one of them was met before. Each content is read, and once more by the rescan. The state, file
+/// 0, isn't looked at.
 ///
 /// The outcome is what the rescan says, or the fault of the device or of memory that ended the repair before; what was
 /// found until then is told and done. A repair leaves nothing damaged below the root: but for these faults, a rescan
@@ -135,7 +136,8 @@ fn walk_own<W: World, F: Files<W>>(
         → IsMended (F.stored files.old) first found.new.items (F.stored files.new) [] }
     ensures led { W.honest → IfOk result (λ saved. (first : List Way)
         → AreLed first pending.items
-        → IsMended (F.stored files.old) first found.new.items (F.stored files.new) saved.items) }
+        → AreMended (F.stored files.old) first found.new.items
+        (F.stored files.new) (contains nat_cmp met.new) saved.items) }
     ensures covered { W.honest → IfOk result (λ saved. CoversThen
         pending.items (F.stored files.old) (contains nat_cmp met.old)
         saved.items (F.stored files.new) (contains nat_cmp met.new)) }
@@ -170,9 +172,9 @@ fn walk_saved<W: World, F: Files<W>>(
     requires met { (k : ℕ) → IsTrue (contains nat_cmp met.old k) → IsNumber k }
     requires none_own { NoneIsOwn pending.items }
     requires few { btree_set_len met.old ≤ number_end }
-    ensures forgets { W.honest → (first : List Way)
-        → AreLed first pending.items
-        → ForgetsMore (F.stored files.old) first found.old.items (F.stored files.new) found.new.items [] }
+    ensures forgets { W.honest → ForgetsThen
+        pending.items (F.stored files.old) (contains nat_cmp met.old) found.old.items
+        (F.stored files.new) found.new.items }
     ensures covered { W.honest → OnOk result (CoversThen
         pending.items (F.stored files.old) (contains nat_cmp met.old)
         [] (F.stored files.new) (contains nat_cmp met.new)) }

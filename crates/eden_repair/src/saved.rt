@@ -1,17 +1,19 @@
 //! Directories on tree objects: numbers that can't be read are forgotten.
-ghost use Rattle.std.specs.Prelude.{[], ◌≡◌, false, ◌≤◌, ◌+◌, ℕ, Err, IfOk, IfSome, IsTrue, OnOk, OnErr, length};
+ghost use Rattle.std.specs.Prelude.{[], ◌≡◌, ◌⊎◌, ◌++◌, false, ◌≤◌, ◌+◌, ℕ, List, length};
+ghost use Rattle.std.specs.Prelude.{None, Err, IfOk, IfSome, IsTrue, OnOk, OnErr};
 ghost use Rattle.std.specs.Ordering.{nat_cmp};
 ghost use Rattle.std.specs.BTreeSet.{contains, btree_set_len};
 ghost use Rattle.eden_model.specs.Failures.{Counted};
 ghost use Rattle.eden_model.specs.Limits.{number_end};
 ghost use Rattle.eden_model.specs.Numbers.{IsNumber};
 ghost use Rattle.eden_overlay_format.specs.Directory.{AreStorable, IsStorable};
+ghost use Rattle.eden_overlay_format.specs.declared.stored_entry.StoredEntry.{StoredEntry};
 ghost use Rattle.eden_model.specs.declared.kind.Origin.TheVariants as origin;
 ghost use Rattle.eden_overlay.specs.Held.{without};
 ghost use Rattle.eden_overlay.specs.declared.files.FilesFault.TheVariants as fault;
 ghost use Rattle.eden_repair.specs.Covering.{AreBelow, AreNew, CoversOn, IsNewThen, NoneIsOwn, none_seen};
-ghost use Rattle.eden_repair.specs.Repairing.{AreOfNoUse, HasNumbersAlone, ways_below};
-ghost use Rattle.eden_repair.specs.Surveying.{AreLed, AreNumbers, AreOfTree, ForgetsOn, IsOnTree};
+ghost use Rattle.eden_repair.specs.Repairing.{HasNumbersAlone, StandTwice, ways_below};
+ghost use Rattle.eden_repair.specs.Surveying.{AreLed, AreNumbers, AreOf, AreOfTree, ForgetsOn, TellsNumbers};
 
 use crate::damage::Damage;
 use crate::finding::Finding;
@@ -84,6 +86,10 @@ fn meet(met: &mut BTreeSet<u64>, number: u64) -> Result<bool, AllocError>
     requires few { btree_set_len met.old ≤ number_end }
     ensures met { IfOk result
         (λ new. IsTrue new → IsNewThen number (contains nat_cmp met.old) (contains nat_cmp met.new)) }
+    ensures old { IfOk result (λ new. new ≡ false → IsTrue (contains nat_cmp met.old number)) }
+    ensures one { OnOk result ((k : ℕ)
+        → IsTrue (contains nat_cmp met.new k)
+        → IsTrue (contains nat_cmp met.old k) ⊎ (number ≡ k)) }
     ensures stay { OnOk result ((k : ℕ) → IsTrue (contains nat_cmp met.old k) → IsTrue (contains nat_cmp met.new k)) }
     ensures more { IfOk result (λ new. IsTrue new → btree_set_len met.new ≡ btree_set_len met.old + 1) }
     ensures least { OnOk result (btree_set_len met.old ≤ btree_set_len met.new) }
@@ -96,7 +102,7 @@ fn meet(met: &mut BTreeSet<u64>, number: u64) -> Result<bool, AllocError>
     Ok(false)
 }
 
-// The numbers of these entries are met. The directories among them; None if a number was met before.
+// The numbers of these entries are met. The directories among them; None if a number was met before, or is that of two.
 fn take_in(
     alloc: Global,
     met: &mut BTreeSet<u64>,
@@ -106,6 +112,12 @@ fn take_in(
     requires storable { AreStorable entries.items }
     requires met { (k : ℕ) → IsTrue (contains nat_cmp met.old k) → IsNumber k }
     requires few { btree_set_len met.old ≤ number_end }
+    ensures twice { IfOk result (λ o. o ≡ None → (known : List StoredEntry)
+        → AreOf (contains nat_cmp met.old) known
+        → StandTwice known entries.items) }
+    ensures all { OnOk result ((known : List StoredEntry)
+        → AreOf (contains nat_cmp met.old) known
+        → AreOf (contains nat_cmp met.new) (known ++ entries.items)) }
     ensures new { IfOk result
         (λ o. IfSome o (λ _. AreNew entries.items (contains nat_cmp met.old) (contains nat_cmp met.new))) }
     ensures below { IfOk result (λ o. IfSome o (λ v. AreBelow entries.items v.items)) }
@@ -136,12 +148,11 @@ fn forget<W: World, F: Files<W>>(
     damage: Damage,
     found: &mut Vec<Finding>,
 ) -> Result<(), FilesFault>
-    requires on_tree { IsOnTree directory }
-    requires no_use { W.honest → AreOfNoUse (F.stored files.old) directory.number damage }
     ensures gone { W.honest
         → OnOk result (F.stored files.new ≡ without (F.stored files.old) directory.number) }
-    ensures forgets { W.honest
-        → ForgetsOn directory (F.stored files.old) found.old.items (F.stored files.new) found.new.items [] }
+    ensures told { OnOk result (TellsNumbers directory damage found.old.items found.new.items) }
+    ensures there { W.honest → OnErr result (F.stored files.new ≡ F.stored files.old) }
+    ensures untold { OnErr result (found.new.items ≡ found.old.items) }
     ensures counted { Counted (result ≡ Err fault.Device) (F.failures files.old) (F.failures files.new) }
 {
     let number = directory.number;
@@ -164,7 +175,7 @@ fn forget<W: World, F: Files<W>>(
 /// Looks at the numbers of a directory on that tree object: they are met, or are forgotten if they can't be read, or if
 /// one was met before. The directories among its entries that are to be looked at.
 ///
-/// After an error the numbers are there as they were.
+/// After an error the numbers are there as they were, and nothing more is told.
 pub(crate) fn mend_saved<W: World, F: Files<W>>(
     alloc: Global,
     files: &mut F,
@@ -176,10 +187,11 @@ pub(crate) fn mend_saved<W: World, F: Files<W>>(
     requires from { directory.origin ≡ origin.Object tree }
     requires met { (k : ℕ) → IsTrue (contains nat_cmp met.old k) → IsNumber k }
     requires few { btree_set_len met.old ≤ number_end }
-    ensures forgets { W.honest → IfOk result (λ v.
-        ForgetsOn directory (F.stored files.old) found.old.items (F.stored files.new) found.new.items v.items) }
-    ensures so_far { W.honest → OnErr result
-        (ForgetsOn directory (F.stored files.old) found.old.items (F.stored files.new) found.new.items []) }
+    ensures forgets { W.honest → IfOk result (λ v. ForgetsOn directory
+        (F.stored files.old) (contains nat_cmp met.old) found.old.items
+        (F.stored files.new) (contains nat_cmp met.new) found.new.items v.items) }
+    ensures there { W.honest → OnErr result (F.stored files.new ≡ F.stored files.old) }
+    ensures untold { OnErr result (found.new.items ≡ found.old.items) }
     ensures none_own { IfOk result (λ below. NoneIsOwn below.items) }
     ensures covered { W.honest → IfOk result (λ below. CoversOn directory
         (F.stored files.old) (contains nat_cmp met.old) none_seen below.items

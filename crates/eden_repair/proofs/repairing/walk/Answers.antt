@@ -3,8 +3,7 @@ use Rattle.std.specs.BTreeSet.{contains}
 use Rattle.eden_overlay.specs.Counting.{root_from}
 use Rattle.eden_overlay.specs.Files.{Stored}
 use Rattle.eden_overlay.specs.Held.{root_file}
-use Rattle.eden_repair.specs.Repairing.{IsRepaired, root_way}
-use Rattle.eden_repair.specs.Surveying.{AreLed}
+use Rattle.eden_repair.specs.Repairing.{IsRepaired}
 use Rattle.eden_repair.specs.Covering.{IsCovered, IsWhole, none_seen}
 use Rattle.eden_repair.proofs.Whole.{begins_with, whole}
 use Rattle.eden_repair.proofs.Steps.{untouched, mended_alone, repairs, top_leads}
@@ -40,7 +39,7 @@ returns-clause-repaired g c = λ honest.
     (c.in_ok-push.ensures.items ∙ ap (λ l. l ++ x ∷ []) c.new-pending.ensures.items) c.in_ok-top.ensures.number (c.in_ok-top.ensures.from honest) c.in_ok-top.ensures.path) in
     subst P (c.top.ensures.unchanged honest)
     (repairs (g.F.Files.stored c.top.new.files) (g.F.Files.stored c.walk_own.new.files) (g.F.Files.stored c.walk_saved.new.files) c.args.root c.walk_own.new.found.items
-    c.walk_saved.new.found.items c.in_ok-saved.saved.items [] m (c.walk_saved.ensures.forgets honest m.ways m.led))
+    c.walk_saved.new.found.items c.in_ok-saved.saved.items m.mended (c.walk_saved.ensures.forgets honest m.mended.ways m.mended.stayed m.mended.led m.met))
 
 pub returns-clause-whole : goal.returns-clause-whole
 returns-clause-whole g c = λ honest.

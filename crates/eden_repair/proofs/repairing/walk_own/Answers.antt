@@ -1,12 +1,13 @@
 use Rattle.std.proofs.Common.{rules, [], ◌≡◌, ◌∙◌, ◌++◌, true, false, map, refl, sym, ap, subst, nat_cmp}
 use Rattle.std.specs.List.{list_any}
+use Rattle.std.proofs.lemmas.List.Elements.{Contains-append_left}
 use Rattle.std.specs.BTreeMap.{is_at}
 use Rattle.std.specs.BTreeSet.{contains}
 use Rattle.eden_repair.specs.Covering.{IsCovered, NoneIsOwn, none_seen}
 use Rattle.eden_overlay.proofs.CallerLemmas.{contains_none, contains_rest}
 use Rattle.eden_repair.specs.Surveying.{AreLed, way_of}
 use Rattle.eden_repair.proofs.Left.{aside_there, below_there, next_back}
-use Rattle.eden_repair.proofs.Steps.{all_led, begins, mended_less, none_there, so_far}
+use Rattle.eden_repair.proofs.Steps.{all_led, all_so_far, begins, mended_less, none_there, so_far}
 use Rattle.eden_repair.proofs.Whole.{below_up, empty_done, next_up, none_left, one_more, put_aside, unseen}
 use Rattle.eden_repair.proofs.repairing.walk_own.Goals as goal
 
@@ -99,3 +100,9 @@ returns-in_err-append-in-Own-clause-mended g c = λ honest first led.
     let before = c.pop.new.self.items in
     let up = mended_less _ _ first _ _ _ _ _ (next_back aside c.loop-directory.pending.items before c.in-Some.directory c.in-Some.ensures.items) (c.loop-directory.invariant.mended honest first led) in
     so_far _ _ first _ _ _ _ [] (λ y there. absurd (contains_none y there)) (c.in_ok-below-in-Own.ensures.mended honest _ first (aside ++ before) up)
+
+pub returns-clause-led : goal.returns-clause-led
+returns-clause-led g c = λ honest first led.
+    let aside = c.loop-directory.saved.items in
+    all_so_far _ _ first _ _ _ (aside ++ c.loop-directory.pending.items) aside (λ y there. Contains-append_left aside c.loop-directory.pending.items y there)
+    (c.loop-directory.invariant.mended honest first led)

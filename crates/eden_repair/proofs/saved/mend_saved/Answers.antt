@@ -2,30 +2,33 @@ use Rattle.std.proofs.Common.{◌≡◌, ◌∙◌, [], IfSome, refl, sym, ap, s
 use Rattle.std.specs.BTreeSet.{contains}
 use Rattle.eden_overlay.specs.Files.{Stored}
 use Rattle.eden_overlay.specs.Held.{without}
+use Rattle.std.proofs.lemmas.List.{append-nil}
+use Rattle.eden_repair.specs.declared.damage.Damage.TheVariants as damage
 use Rattle.eden_repair.specs.declared.saved.Numbers.TheVariants as numbers
 use Rattle.eden_repair.specs.Covering.{AreBelow, AreNew, CoversOn, none_seen}
 use Rattle.eden_repair.specs.Repairing.{ways_below}
-use Rattle.eden_repair.specs.Surveying.{AreLed, AreNumbers, AreOfTree, ForgetsOn}
+use Rattle.eden_repair.specs.Surveying.{AreLed, AreNumbers, AreOf, AreOfTree}
 use Rattle.eden_repair.proofs.Looking.{bare_looks, forgotten_looks, looks_cover, none_below, saved_looks}
-use Rattle.eden_repair.proofs.Steps.{forgets_bare, forgets_saved, on_err}
+use Rattle.eden_repair.proofs.Steps.{forgets_bare, forgets_one, forgets_saved}
 use Rattle.eden_repair.proofs.saved.mend_saved.Goals as goal
-
-pub returns-in_err-numbers_at-clause-so_far : goal.returns-in_err-numbers_at-clause-so_far
-returns-in_err-numbers_at-clause-so_far g c = λ honest.
-    let told = c.args.found.now.items in
-    on_err _ _ (forgets_bare (g.F.Files.stored c.args.files.now) (g.F.Files.stored c.numbers_at.new.files) told told c.args.directory [] (c.in_err-numbers_at.ensures.unchanged honest) refl refl)
-
-pub returns-in_err-below-in-Entries-clause-so_far :
-    goal.returns-in_err-below-in-Entries-clause-so_far
-returns-in_err-below-in-Entries-clause-so_far g c = λ honest.
-    let told = c.args.found.now.items in
-    on_err _ _ (forgets_bare (g.F.Files.stored c.args.files.now) (g.F.Files.stored c.numbers_at.new.files) told told c.args.directory [] (c.numbers_at.ensures.unchanged honest) refl refl)
 
 pub returns-in-None-clause-forgets : goal.returns-in-None-clause-forgets
 returns-in-None-clause-forgets g c = λ honest.
     let told = c.args.found.now.items in
-    forgets_bare (g.F.Files.stored c.args.files.now) (g.F.Files.stored c.numbers_at.new.files) told told c.args.directory c.new.result.items
+    forgets_bare (g.F.Files.stored c.args.files.now) (g.F.Files.stored c.numbers_at.new.files) told told (contains nat_cmp c.args.met.now) c.args.directory c.new.result.items
     (c.numbers_at.ensures.unchanged honest) refl c.new.ensures.items
+
+pub returns-in_ok-forget-in-Refused-clause-forgets : goal.returns-in_ok-forget-in-Refused-clause-forgets
+returns-in_ok-forget-in-Refused-clause-forgets g c = λ honest.
+    let F = g.F.Files.stored c.args.files.now in
+    let x = c.args.directory in
+    let was = contains nat_cmp c.args.met.now in
+    let refused : AreNumbers F x.number c.args.tree (numbers.Refused c.in-Refused.refusal) =
+    subst (AreNumbers F x.number c.args.tree) c.in-Refused.is (c.in_ok-numbers_at.ensures.held honest) in
+    forgets_one F (g.F.Files.stored c.forget.new.files) c.args.found.now.items c.forget.new.found.items was was x c.args.tree [] c.new-in-Refused.result.items
+    (damage.Damaged c.in-Refused.refusal) c.requires.from (λ met are. refused)
+    (c.in_ok-forget-in-Refused.ensures.gone honest ∙ ap (λ (X : Stored). without X x.number) (c.numbers_at.ensures.unchanged honest)) c.in_ok-forget-in-Refused.ensures.told
+    (λ met are. subst (AreOf was) (sym (append-nil met)) are) c.new-in-Refused.ensures.items
 
 pub returns-in-Some-clause-forgets : goal.returns-in-Some-clause-forgets
 returns-in-Some-clause-forgets g c = λ honest.
@@ -37,7 +40,8 @@ returns-in-Some-clause-forgets g c = λ honest.
     let led : AreLed (ways_below c.deref.result.now entries) c.in-Some.below.items =
     subst (λ o. IfSome o (λ v. AreLed (ways_below c.deref.result.now entries) v.items)) c.in-Some.is c.in_ok-below-in-Entries.ensures.led in
     let led : AreLed (ways_below x.path.items entries) c.in-Some.below.items = subst (λ at. AreLed (ways_below at entries) c.in-Some.below.items) c.deref.ensures.value led in
-    forgets_saved F (g.F.Files.stored c.numbers_at.new.files) told told x c.args.tree entries c.in-Some.below.items (c.numbers_at.ensures.unchanged honest) refl c.requires.from found.1.0 led
+    forgets_saved F (g.F.Files.stored c.numbers_at.new.files) told told (contains nat_cmp c.args.met.now) (contains nat_cmp c.take_in.new.met) x c.args.tree entries c.in-Some.below.items
+    (c.numbers_at.ensures.unchanged honest) refl c.requires.from found.1.0 led c.in_ok-below-in-Entries.ensures.all
 
 pub returns-in-None-clause-covered : goal.returns-in-None-clause-covered
 returns-in-None-clause-covered g c = λ honest.
@@ -96,11 +100,15 @@ returns-in_ok-forget-in-None-2-clause-covered g c = λ honest.
 pub returns-in_ok-forget-in-None-2-clause-forgets :
     goal.returns-in_ok-forget-in-None-2-clause-forgets
 returns-in_ok-forget-in-None-2-clause-forgets g c = λ honest.
-    let G = g.F.Files.stored c.forget-in-None-2.new.files in
-    let told = c.args.found.now.items in
-    let after = c.forget-in-None-2.new.found.items in
-    subst (λ l. ForgetsOn c.args.directory (g.F.Files.stored c.args.files.now) told G after l) (sym c.new-in-None-2.ensures.items)
-    (subst (λ (X : Stored). ForgetsOn c.args.directory X told G after []) (c.numbers_at.ensures.unchanged honest) (c.in_ok-forget-in-None-2.ensures.forgets honest))
+    let F = g.F.Files.stored c.args.files.now in
+    let x = c.args.directory in
+    let entries = c.in-Entries.entries.items in
+    let found : AreNumbers F x.number c.args.tree (numbers.Entries c.in-Entries.entries) = subst (AreNumbers F x.number c.args.tree) c.in-Entries.is (c.in_ok-numbers_at.ensures.held honest) in
+    forgets_one F (g.F.Files.stored c.forget-in-None-2.new.files) c.args.found.now.items c.forget-in-None-2.new.found.items (contains nat_cmp c.args.met.now)
+    (contains nat_cmp c.take_in.new.met) x c.args.tree entries c.new-in-None-2.result.items damage.Twice c.requires.from
+    (λ met are. (found.0, (found.1.0, c.in_ok-below-in-Entries.ensures.twice c.in-None-2.is met are)))
+    (c.in_ok-forget-in-None-2.ensures.gone honest ∙ ap (λ (X : Stored). without X x.number) (c.numbers_at.ensures.unchanged honest)) c.in_ok-forget-in-None-2.ensures.told
+    c.in_ok-below-in-Entries.ensures.all c.new-in-None-2.ensures.items
 
 pub returns-in-Some-clause-none_own : goal.returns-in-Some-clause-none_own
 returns-in-Some-clause-none_own g c =
