@@ -169,10 +169,13 @@ class Showing:
         # Whoever has it may put another mountd in the place of the one that shows the folder.
         self.turn = threading.Lock()
         self.shown: Shown | None = None
+        # Why nothing shows the folder any more, though each mountd closed the overlay well.
+        self.lost: str | None = None
 
-    def open(self) -> None:
-        """Shows it. `Unopened`, with mountd's own word, if the overlay isn't opened."""
-        self.shown = self.opened(None)
+    def open(self, descriptor: int | None = None) -> None:
+        """Shows it, by the descriptor if it is mounted already. `Unopened`, with mountd's own word, if the overlay
+        isn't opened."""
+        self.shown = self.opened(descriptor)
         if self.is_ended:
             self.end()
 
@@ -193,8 +196,9 @@ class Showing:
                     time.sleep(0.1)
             descriptor = None
 
-    def wait(self) -> str | None:
-        """Waits until the folder is unmounted, or nothing shows it; what mountd said, where it didn't end well."""
+    def wait(self) -> None:
+        """Waits until the folder is unmounted, or nothing shows it. `Unclosed`, if the last mountd didn't end well;
+        `Unopened`, if none could be started after it and nobody ended the mount."""
         while True:
             shown = self.shown
             assert shown is not None
@@ -202,26 +206,47 @@ class Showing:
             with self.turn:
                 if self.shown is shown:
                     unmount(self.folder)
-                    return None if shown.child.returncode == 0 else said
+                    break
+        if shown.child.returncode != 0:
+            raise Unclosed(said)
+        if self.lost is not None:
+            raise Unopened(self.lost)
 
     def while_closed(self, work: Callable[[], Result]) -> Result:
         """What the work gives, over an overlay that is closed meanwhile. A `Refusal`, if the folder is in use: then it
-        stays as it is. Programs that come once it is mounted again wait for the next mountd."""
+        stays as it is. Programs that come once it is mounted again wait for the next mountd. `Unopened`, if there is
+        none: then nothing is mounted any more, and the work may have been done."""
         with self.turn:
-            descriptor = self.mounted_again()
+            self.leave()
+            with self.or_lost():
+                descriptor = self.mounted_again()
             try:
                 return work()
             finally:
-                self.shown = self.opened(descriptor)
+                with self.or_lost():
+                    self.open(descriptor)
 
-    def mounted_again(self) -> int:
-        """Unmounts the folder and mounts it at once; the descriptor that the next mountd is given."""
+    def leave(self) -> None:
+        """Unmounts the folder, unless it is in use."""
         with contextlib.suppress(OSError):
             # Answered after the closes before it, of which the last one of a removed file takes that away.
             os.statvfs(self.folder)
         if self.is_ended or not unmount_unused(self.folder):
             raise Refusal(f"{self.folder} is in use: it is unmounted for a moment for this, so leave the folder and "
                           "close its files")
+
+    @contextlib.contextmanager
+    def or_lost(self) -> Iterator[None]:
+        """What fails here leaves nothing mounted, which `wait` tells too, unless somebody ended the mount."""
+        try:
+            yield
+        except (Unopened, OSError) as problem:
+            if not self.is_ended:
+                self.lost = str(problem)
+            raise Unopened(str(problem)) from None
+
+    def mounted_again(self) -> int:
+        """Mounts the folder, which was just unmounted, at once; the descriptor that the next mountd is given."""
         descriptor = mount(self.folder)
         assert self.shown is not None
         status = self.shown.child.wait()
