@@ -240,7 +240,7 @@ class Asked:
 
     def committed(self, fields: Fields, folder: pathlib.Path) -> Fields:
         """The next commit is put on that one."""
-        self.overlay.write_note(self.noted()._replace(commit=fields["commit"]))
+        self.overlay.write_note(self.noted()._replace(commit=control.text_of(fields, "commit")))
         return {}
 
 
@@ -349,11 +349,8 @@ def main() -> int:
     signal.signal(signal.SIGTERM, lambda *_: sys.exit(1))
     try:
         command(words)
-    except Refusal as refusal:
-        tell(str(refusal))
-        return 1
-    except OSError as problem:
-        tell(f"{problem.filename}: {problem.strerror}" if problem.filename else str(problem))
+    except (Refusal, OSError) as problem:
+        tell(control.said_of(problem))
         return 1
     except KeyboardInterrupt:
         return 1

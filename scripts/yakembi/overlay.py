@@ -77,15 +77,20 @@ class OverlayFolder:
         there, or this is."""
         if noted == self.noted():
             return
-        if os.fstat(self.note).st_size < NOTE_BYTES:
+        try:
+            self.write_over(line_of(noted))
+            self.keep_name()
+        except OSError as problem:
+            raise OSError(problem.errno, problem.strerror, os.path.join(self.path, NOTE)) from None
+
+    def write_over(self, line: bytes) -> None:
+        if os.fstat(self.note).st_size < len(line):
             # Of an older version, or none: longer by zeros before its bytes are others.
-            os.ftruncate(self.note, NOTE_BYTES)
+            os.ftruncate(self.note, len(line))
             os.fsync(self.note)
-        line = line_of(noted)
         if os.pwrite(self.note, line, 0) != len(line):
-            raise OSError(errno.EIO, "it isn't written whole", os.path.join(self.path, NOTE))
+            raise OSError(errno.EIO, "it isn't written whole")
         os.fsync(self.note)
-        self.keep_name()
 
     def keep_name(self) -> None:
         """Waits until the disk has the note's name."""
