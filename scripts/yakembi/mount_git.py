@@ -80,7 +80,7 @@ def mount_point(path: str) -> str:
         except OSError:
             raise Refusal(f"{left} can't be unmounted") from None
         tell(f"{left} is unmounted")
-    if os.path.ismount(path):
+    if os.path.ismount(os.path.realpath(path)):
         raise Refusal(f"something is mounted on {path}")
     if names:
         raise Refusal(f"{path} isn't empty")
