@@ -1,9 +1,9 @@
-"""Prints how what a folder shows, that another run of `mount-git` has mounted, differs from the commit it stands on.
+"""Prints how what a folder shows, that another run of `mount-git` has mounted, differs from the mounted tree.
 
-A line a path: A, D, M or T as `git diff --name-status` has them, and the path from the top of the folder, quoted as Git
-quotes it. A directory ends in a slash. One that was moved, added or removed as a whole has one line: what is below is
-as it was, or isn't there, and nothing of it is fetched. That other run unmounts the folder for a moment, as `mount-git
-commit` has it do.
+That is the tree that the mount was opened with, also after a commit of what the folder shows. A line a path: A, D, M or
+T as `git diff --name-status` has them, and the path from the top of the folder, quoted as Git quotes it. A directory
+ends in a slash. One that was moved, added or removed as a whole has one line: what is below is as it was, or isn't
+there, and nothing of it is fetched. That other run unmounts the folder for a moment, as `mount-git commit` has it do.
 """
 
 import argparse
