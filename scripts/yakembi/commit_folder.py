@@ -16,7 +16,7 @@ import tempfile
 from collections.abc import Iterator
 
 from yakembi.control import Connection, Fields, said_of, tell
-from yakembi.git import Refusal, Repository, environment, last_line
+from yakembi.git import Refusal, Repository, environment, said
 from yakembi.packs import objects_in, write_pack
 
 # Up to so many objects become a file each, as `git receive-pack` does it by itself; more become one pack.
@@ -97,7 +97,7 @@ def put(repository: Repository, objects: list[pathlib.Path]) -> None:
         done = subprocess.run(["git", "-C", repository.path, *words], stdin=pack, capture_output=True,
                               env=environment())
     if done.returncode != 0:
-        raise Refusal(f"the objects can't be put into the repository{last_line(done)}")
+        raise Refusal(f"the objects can't be put into the repository{said(done.stderr)}")
 
 
 def committed(repository: Repository, tree: str, base: str, message: str) -> str:
@@ -107,7 +107,7 @@ def committed(repository: Repository, tree: str, base: str, message: str) -> str
                           input=os.fsencode(message.rstrip("\n") + "\n"), capture_output=True,
                           env={**environment(), **signing})
     if done.returncode != 0:
-        raise Refusal(f"there is no commit{last_line(done)}")
+        raise Refusal(f"there is no commit{said(done.stderr)}")
     return done.stdout.decode().strip()
 
 
@@ -116,7 +116,7 @@ def move(repository: Repository, branch: str, made: str, was: str, message: str)
     first = next(iter(message.splitlines()), "")
     done = repository.git("update-ref", "-m", f"commit: {first}", branch, made, was)
     if done.returncode != 0:
-        raise Refusal(f"{branch} isn't moved{last_line(done)}")
+        raise Refusal(f"{branch} isn't moved{said(done.stderr)}")
 
 
 def commit_parser() -> argparse.ArgumentParser:
