@@ -8,13 +8,13 @@ import shutil
 import subprocess
 
 from checks import check, finished, git
-from helpers.git import environment
+from helpers.git import blob_id, environment
 from overlays import Place, check_session, wanted_reply
 from programs import MOUNTD
 from protocol import path_text
 from random_requests import RandomRequests, line_of
 from served_commits import MOST_NODES, ServedCommit
-from told_changes import (LINK, Files, Rows, blob_id, entered, entries_in, in_order, letters_in, letters_of, rows_in,
+from told_changes import (LINK, Files, Rows, entered, entries_in, in_order, letters_in, letters_of, rows_in,
                           told)
 from yakembi.folder_changes import changes_in
 from yakembi.overlay_files import DIRECTORY, EMPTY, FOLDER, OBJECT, OWN, Entry

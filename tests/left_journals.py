@@ -13,7 +13,7 @@ from typing import NamedTuple
 
 from checks import check, watched
 from helpers.running import pipes
-from overlays import Commit, Place, as_described, check_closed, check_session, replied, wanted_reply
+from overlays import RESCAN, Commit, Place, as_described, check_closed, check_session, replied, wanted_reply
 from random_requests import LOOKS, WORDS, RandomRequests, line_of, whole
 from yakembi.overlay_files import JOURNAL, RECORD_BYTES, Shown, records
 from yakembi.tree_model import LONGEST_DATA, Nodes, WholeTree, without_number
@@ -27,7 +27,6 @@ REQUESTS, CUTS = 120, 60
 FULL = 16 << 20
 # How large a file is that is written again and again, and how many writes then are enough to fill a journal.
 LARGE, ENOUGH = LONGEST_DATA + 40_000, 170
-RESCAN = "--rescan"
 
 
 class Left(NamedTuple):

@@ -16,7 +16,7 @@ from collections.abc import Callable, Iterable
 from checks import PATIENCE, check, finished, git, make_repository
 from clones import FILES, FOLDER, MOST_QUESTIONS, Clone, blobs_in, make_far_repository, trees_on_the_way
 from folder_operations import Folder, compare, outcome, shown
-from helpers.git import DEEP, environment
+from helpers.git import DEEP, EMPTY_TREE, environment
 from mount_differences import tried
 from mount_folder import (BUILDS, CHANGES, COPIES, ENDINGS, LOOKS, Both, Large, MountGit, asked_for, check_own,
                           checkout, children, make_many_files, renamed, said_by)
@@ -246,7 +246,7 @@ def check_signed_commit(folder: pathlib.Path) -> None:
     check("signed: Git tells of the signature", told != "1000000000", True)
     with MountGit(repository, commit, folder / "mounted", "--overlay", folder / "overlay") as mount:
         noted = (folder / "overlay/mount-git").read_text()
-        check("signed: what is noted of it", noted, f"{tree} 1000000000 {commit}\n")
+        check("signed: what is noted of it", noted, f"{tree} {1_000_000_000:020} {commit}\n")
         check("signed: the commit's time", (mount.folder / "plain.txt").stat().st_mtime, 1_000_000_000)
         check("signed: the end, with nothing said", (mount.end("SIGTERM"), mount.said()), (0, []))
 
@@ -254,10 +254,9 @@ def check_signed_commit(folder: pathlib.Path) -> None:
 def check_empty_tree(folder: pathlib.Path) -> None:
     """A commit of the empty tree, which Git knows without storing it, is an empty folder that takes files."""
     repository = make_repository(folder)
-    tree = "4b825dc642cb6eb9a060e54bf8d69288fbee4904"
-    commit = git(repository, "commit-tree", "-m", "empty", tree)
+    commit = git(repository, "commit-tree", "-m", "empty", EMPTY_TREE)
     stored = git(repository, "cat-file", "--batch-all-objects", "--batch-check=%(objectname)").split()
-    check("an empty tree: it isn't stored", tree in stored, False)
+    check("an empty tree: it isn't stored", EMPTY_TREE in stored, False)
     with MountGit(repository, commit, folder / "mounted") as mount:
         check("an empty tree: what stands in it", os.listdir(mount.folder), [])
         (mount.folder / "new").write_bytes(b"new")

@@ -26,7 +26,7 @@ from mount_files import TOLD
 from mount_folder import Both, MountGit, checkout, children, said_by, unmount
 from mount_fuse import command_of, left_of
 from mount_names import check_names
-from programs import MOUNT_GIT, TOP
+from programs import MOUNT_GIT, MOUNTD, TOP
 from yakembi.overlay_files import JOURNAL, RECORD_BYTES, STORED, records
 
 # ---- calls of the system
@@ -213,6 +213,25 @@ def check_killed_mountd(folder: pathlib.Path, repository: pathlib.Path) -> None:
     with MountGit(repository, "HEAD", folder / "mounted", "--overlay", overlay) as mount:
         check("mountd killed: what is there", (mount.folder / "made").read_text(), "kept")
         check("mountd killed: the second end, with nothing said", (mount.end("SIGTERM"), mount.said()), (0, []))
+
+
+def check_lost_mountd(folder: pathlib.Path, repository: pathlib.Path) -> None:
+    """Where no mountd can be started again after `changes`, who asks is told, and the mount ends with a line and status
+    1; the next mount has all that was answered."""
+    overlay, program, is_lost = folder / "overlay", folder / "some mountd", folder / "is lost"
+    program.write_text(f'#!/bin/sh\nif test "$1" = fuse -a -e "{is_lost}"\n'
+                       f'then echo mountd: open Device >&2; exit 3\nfi\nexec "{MOUNTD}" "$@"\n')
+    program.chmod(0o755)
+    wanted = ["mount-git: mountd wasn't opened again, and nothing is mounted any more: Device"]
+    with MountGit(repository, "HEAD", folder / "mounted", "--overlay", overlay, "--mountd", program) as mount:
+        (mount.folder / "made").write_text("kept")
+        is_lost.touch()
+        check("mountd lost: who asks", said_by(MOUNT_GIT, "changes", mount.folder), (1, wanted))
+        check("mountd lost: the end", (mount.status(), mount.said()), (1, wanted))
+        check("mountd lost: nothing is mounted", mount.is_mounted(), False)
+    with MountGit(repository, "HEAD", folder / "mounted", "--overlay", overlay) as mount:
+        check("mountd lost: what is there", (mount.folder / "made").read_text(), "kept")
+        check("mountd lost: the second end, with nothing said", (mount.end("SIGTERM"), mount.said()), (0, []))
 
 
 def check_kills(folder: pathlib.Path, repository: pathlib.Path) -> None:

@@ -15,6 +15,7 @@ from collections.abc import Callable, Iterator
 from concurrent.futures import ThreadPoolExecutor
 
 from checks import PATIENCE, check, git, make_repository, skip
+from helpers.disks import small_disk
 from helpers.running import most_memory_of
 from mount_differences import tried
 from mount_folder import MountGit, children, said_by
@@ -248,23 +249,13 @@ DISK = 4 << 20
 PIECE = 300_000
 
 
-@contextlib.contextmanager
-def small_disk(place: pathlib.Path) -> Iterator[pathlib.Path]:
-    place.mkdir()
-    subprocess.run(["mount", "-t", "tmpfs", "-o", f"size={DISK}", "small", place], check=True, capture_output=True)
-    try:
-        yield place
-    finally:
-        subprocess.run(["umount", "-l", place], capture_output=True)
-
-
 def check_full_overlay(folder: pathlib.Path, repository: pathlib.Path) -> None:
     """Where the overlay's disk is full, a close is EIO; what was closed before is there, and with room all goes on."""
-    if os.geteuid() != 0:
-        skip("a full overlay", "only root may mount a small disk")
-        return
     data = random.Random(1).randbytes(PIECE)
-    with small_disk(folder / "small") as disk:
+    with small_disk(folder / "small", DISK) as disk:
+        if disk is None:
+            skip("a full overlay", "no small disk may be mounted")
+            return
         other = disk / "of another program"
         other.write_bytes(data)
         with MountGit(repository, "HEAD", folder / "mounted", "--overlay", disk / "overlay") as mount:

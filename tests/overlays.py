@@ -15,6 +15,8 @@ from yakembi.overlay_files import Damaged, Shown, state_of, stored
 from yakembi.session_lines import read_line
 from yakembi.tree_model import Node, Nodes, Numbers, Path, Values, WholeTree, number_told, without_number
 
+# By it what a kill left is opened.
+RESCAN = "--rescan"
 CLOSED = (0, b"")
 Read = TypeVar("Read")
 

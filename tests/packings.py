@@ -12,6 +12,7 @@ from collections.abc import Callable, Iterable, Mapping, Sequence
 from typing import NamedTuple
 
 from checks import git
+from helpers.git import blob_id
 
 COMMITTER = "committer Test <test@example.org> {} +0000\n"
 LINES = 40
@@ -215,10 +216,6 @@ class Entry(NamedTuple):
             head.append(first | 128)
             first, rest = rest & 127, rest >> 7
         return bytes([*head, first]) + self.before + self.stream
-
-
-def blob_id(content: bytes) -> str:
-    return hashlib.sha1(b"blob %d\0" % len(content) + content).hexdigest()
 
 
 def whole(content: bytes) -> Entry:

@@ -9,7 +9,7 @@ from collections.abc import Callable, Iterator
 
 from checks import check, finished, watched
 from helpers.running import Status, pipes
-from overlays import Commit, Place, check_session
+from overlays import RESCAN, Commit, Place, check_session
 from programs import MOUNTD, SAMPLE_OBJECTS, SAMPLE_ROOT
 from random_requests import field_text
 from yakembi.overlay_files import (DIRECTORY, EMPTY, FILE, FOLDER, HEADER_BYTES, NUMBERS, OBJECT, OWN, PLAIN, VERSION,
@@ -24,7 +24,6 @@ Directory = tuple[Path, int, int, str]
 # A name, the files of an overlay of the sample commit, the lines that are printed, and what the root lists then.
 Row = tuple[str, Files, list[bytes], bytes]
 ROUNDS = 150
-RESCAN = "--rescan"
 
 
 # ---- what a repair does, by the description of the files

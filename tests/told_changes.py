@@ -1,7 +1,6 @@
 """Changes that are told of an overlay, what Git says of the same two trees, and what it has in a tree."""
 
 import functools
-import hashlib
 import pathlib
 from collections.abc import Iterable, Mapping
 
@@ -20,10 +19,6 @@ PLAIN = {b"100644", b"100755"}
 LINK, SUBMODULE = b"120000", b"160000"
 # The entries of a directory's file; most files are the same after the next requests.
 entries_in = functools.lru_cache(maxsize=4_096)(entries_of)
-
-
-def blob_id(content: bytes) -> str:
-    return hashlib.sha1(b"blob %d\0" % len(content) + content).hexdigest()
 
 
 def rows_in(repository: pathlib.Path, tree: str) -> Rows:

@@ -1,5 +1,6 @@
 """Git for measurements and tests, free of the user's own settings, and a large repository."""
 
+import hashlib
 import os
 import pathlib
 import subprocess
@@ -14,6 +15,8 @@ FILES = 50_000
 FOLDERS = 100
 FOLDERS_IN_A_FOLDER = 25
 DEEP = "d17/e17/f/g/h/deep"
+# Git knows it without storing it.
+EMPTY_TREE = "4b825dc642cb6eb9a060e54bf8d69288fbee4904"
 
 
 def environment() -> dict[str, str]:
@@ -34,6 +37,11 @@ def git(repository: str | pathlib.Path, *words: str, data: bytes | None = None, 
     done = subprocess.run(["git", *SETTINGS, "-C", str(repository), *words], input=data, capture_output=True,
                           check=True, env=environment())
     return done.stdout.decode().strip() if text else done.stdout
+
+
+def blob_id(content: bytes) -> str:
+    """The id of a blob, as Git reckons it."""
+    return hashlib.sha1(b"blob %d\0" % len(content) + content).hexdigest()
 
 
 def make_commit(repository: pathlib.Path, contents: Iterable[tuple[str, bytes]]) -> None:

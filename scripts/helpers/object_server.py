@@ -1,7 +1,6 @@
 """A server of objects for tests, whose answers are a function of the id."""
 
 import contextlib
-import hashlib
 import pathlib
 import threading
 import time
@@ -16,10 +15,6 @@ LONGEST_HELD = 25
 
 # What is answered to an id, and whether the connection goes on.
 Answer = Callable[[str], tuple[bytes, bool]]
-
-
-def blob_id(content: bytes) -> str:
-    return hashlib.sha1(b"blob %d\0" % len(content) + content).hexdigest()
 
 
 class Answers:

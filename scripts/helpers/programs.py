@@ -10,7 +10,7 @@ import sys
 from collections.abc import Iterator, Sequence
 from typing import Any
 
-from helpers.running import Process, watched
+from helpers.running import Ending, Process, finished, watched
 from yakembi.addresses import Address, socket_path, told
 
 TOP = pathlib.Path(__file__).resolve().parents[2]
@@ -23,6 +23,16 @@ SHELL = TOP / "scripts/eden-shell"
 SAMPLE_ROOT = "d8329fc1cc938780ffdd9f94e0d364e0ea74f579"
 EXAMPLES = TOP / "examples"
 SAMPLE_OBJECTS = EXAMPLES / "objects"
+# The one file of the sample commit.
+SAMPLE_BLOB = "83baae61804e65cc73a7201a7252750c76066a30"
+# A port that the machine chooses, where a socket would do.
+A_PORT = ["--port", 0]
+
+
+def mountd(*words: object) -> Ending:
+    """How the program ends."""
+    done = finished([MOUNTD, *words], stdin=subprocess.DEVNULL, capture_output=True)
+    return done.returncode, done.stdout, done.stderr
 
 
 @contextlib.contextmanager

@@ -13,9 +13,10 @@ import pathlib
 import re
 import subprocess
 import tempfile
+from collections.abc import Iterator
 
-from yakembi.control import Connection, Fields, tell
-from yakembi.git import Refusal, Repository, environment, last_line
+from yakembi.control import Connection, Fields, said_of, tell
+from yakembi.git import Refusal, Repository, environment, said
 from yakembi.packs import objects_in, write_pack
 
 # Up to so many objects become a file each, as `git receive-pack` does it by itself; more become one pack.
@@ -39,9 +40,20 @@ def commit(words: argparse.Namespace) -> None:
             raise Refusal("nothing is changed since the commit that the folder stands on")
         put(repository, objects_in(pathlib.Path(taken["folder"])))
         made = committed(repository, taken["tree"], base, words.message)
-        move(repository, branch, made, was, words.message)
-        mount.ask("committed", commit=made)
+        with said_behind(f"the commit {made} is made, but"):
+            move(repository, branch, made, was, words.message)
+        with said_behind(f"{branch} is moved to the commit {made}, but the mount won't put the next one on it:"):
+            mount.ask("committed", commit=made)
     print(f"{made} {branch}", flush=True)
+
+
+@contextlib.contextmanager
+def said_behind(what: str) -> Iterator[None]:
+    """Says of what fails that this is done all the same."""
+    try:
+        yield
+    except (Refusal, OSError) as problem:
+        raise Refusal(f"{what} {said_of(problem)}") from None
 
 
 def base_of(about: Fields) -> str:
@@ -85,7 +97,7 @@ def put(repository: Repository, objects: list[pathlib.Path]) -> None:
         done = subprocess.run(["git", "-C", repository.path, *words], stdin=pack, capture_output=True,
                               env=environment())
     if done.returncode != 0:
-        raise Refusal(f"the objects can't be put into the repository{last_line(done)}")
+        raise Refusal(f"the objects can't be put into the repository{said(done.stderr)}")
 
 
 def committed(repository: Repository, tree: str, base: str, message: str) -> str:
@@ -95,7 +107,7 @@ def committed(repository: Repository, tree: str, base: str, message: str) -> str
                           input=os.fsencode(message.rstrip("\n") + "\n"), capture_output=True,
                           env={**environment(), **signing})
     if done.returncode != 0:
-        raise Refusal(f"there is no commit{last_line(done)}")
+        raise Refusal(f"there is no commit{said(done.stderr)}")
     return done.stdout.decode().strip()
 
 
@@ -104,7 +116,7 @@ def move(repository: Repository, branch: str, made: str, was: str, message: str)
     first = next(iter(message.splitlines()), "")
     done = repository.git("update-ref", "-m", f"commit: {first}", branch, made, was)
     if done.returncode != 0:
-        raise Refusal(f"{branch} isn't moved, and the commit is {made}{last_line(done)}")
+        raise Refusal(f"{branch} isn't moved{said(done.stderr)}")
 
 
 def commit_parser() -> argparse.ArgumentParser:

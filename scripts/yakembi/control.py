@@ -6,6 +6,7 @@ its connection ends.
 """
 
 import contextlib
+import functools
 import hashlib
 import json
 import os
@@ -27,12 +28,21 @@ Answers = dict[str, Callable[[Fields, pathlib.Path], Fields]]
 LONGEST_LINE = 1 << 20
 # A commit of many changed files takes its time.
 SECONDS_TO_ANSWER = 3_600
+# Who asked takes the reply so soon, or never: others wait to be answered meanwhile.
+SECONDS_TO_TAKE = 10
 
 
 def tell(line: str) -> None:
     """Tells a line of `mount-git`'s on standard error, in one piece, since threads tell side by side."""
     sys.stderr.write(f"mount-git: {line}\n")
     sys.stderr.flush()
+
+
+def said_of(problem: Refusal | OSError) -> str:
+    """What is wrong, in one line."""
+    if isinstance(problem, OSError) and problem.filename:
+        return f"{os.fsdecode(problem.filename)}: {problem.strerror}"
+    return str(problem)
 
 
 def places() -> list[str]:
@@ -82,29 +92,61 @@ class Asked(ConnectionHandler):
     server: Server
 
     def handle(self) -> None:
-        with tempfile.TemporaryDirectory(prefix="mount-git.", ignore_cleanup_errors=True) as name:
-            with contextlib.suppress(ConnectionError):
-                while line := self.rfile.readline(LONGEST_LINE):
-                    self.wfile.write(json.dumps(self.answer(line, pathlib.Path(name))).encode() + b"\n")
+        with contextlib.ExitStack() as self.stack, contextlib.suppress(ConnectionError, TimeoutError):
+            while line := self.rfile.readline(LONGEST_LINE):
+                with self.server.turn:
+                    reply = json.dumps(self.answer(line)).encode() + b"\n"
+                    self.connection.settimeout(SECONDS_TO_TAKE)
+                    self.wfile.write(reply)
+                    self.connection.settimeout(None)
 
-    def answer(self, line: bytes, folder: pathlib.Path) -> Fields:
-        fields = json.loads(line)
-        with self.server.turn:
-            try:
-                return self.server.answers[fields["do"]](fields, folder)
-            except Refusal as refusal:
-                return {"refusal": str(refusal)}
+    def answer(self, line: bytes) -> Fields:
+        """The reply to the request, or why there is none, whatever it is that went wrong."""
+        try:
+            fields = fields_in(line)
+            found = self.server.answers.get(text_of(fields, "do"))
+            if found is None:
+                raise Refusal(f"this mount doesn't know the request {fields['do']}")
+            return found(fields, self.folder)
+        except (Refusal, OSError) as problem:
+            return {"refusal": said_of(problem)}
+
+    @functools.cached_property
+    def folder(self) -> pathlib.Path:
+        temporary = tempfile.TemporaryDirectory(prefix="mount-git.", ignore_cleanup_errors=True)
+        return pathlib.Path(self.stack.enter_context(temporary))
+
+
+def fields_in(line: bytes) -> Fields:
+    """The fields of a request's line. A Refusal, where it is none."""
+    try:
+        found = json.loads(line)
+    except (ValueError, RecursionError):
+        found = None
+    if not isinstance(found, dict):
+        raise Refusal("a request is a line of JSON, an object")
+    return found
+
+
+def text_of(fields: Fields, name: str) -> str:
+    """The text that a request has in that field. A Refusal, where it has none."""
+    found = fields.get(name)
+    if not isinstance(found, str):
+        raise Refusal(f"the request has no text named {name}")
+    return found
 
 
 @contextlib.contextmanager
 def serving(folder: str, answers: Answers) -> Iterator[None]:
-    """Answers what is asked at the folder's socket, until the block ends."""
+    """Answers what is asked at the folder's socket, until the block ends, and then still who has asked by then."""
     server = Server(os.path.join(made_place(), name_for(folder)), answers)
     thread = threading.Thread(target=server.serve_forever, kwargs={"poll_interval": 0.05}, daemon=True)
     thread.start()
     try:
         yield
     finally:
+        if server.turn.acquire(timeout=SECONDS_TO_TAKE):
+            server.turn.release()
         server.shutdown()
         server.server_close()
         thread.join()

@@ -1,9 +1,9 @@
-"""Prints how what a folder shows, that another run of `mount-git` has mounted, differs from the commit it stands on.
+"""Prints how what a folder shows, that another run of `mount-git` has mounted, differs from the mounted tree.
 
-A line a path: A, D, M or T as `git diff --name-status` has them, and the path from the top of the folder, quoted as Git
-quotes it. A directory ends in a slash. One that was moved, added or removed as a whole has one line: what is below is
-as it was, or isn't there, and nothing of it is fetched. That other run unmounts the folder for a moment, as `mount-git
-commit` has it do.
+That is the tree that the mount was opened with, also after a commit of what the folder shows. A line a path: A, D, M or
+T as `git diff --name-status` has them, and the path from the top of the folder, quoted as Git quotes it. A directory
+ends in a slash. One that was moved, added or removed as a whole has one line: what is below is as it was, or isn't
+there, and nothing of it is fetched. That other run unmounts the folder for a moment, as `mount-git commit` has it do.
 """
 
 import argparse
@@ -48,15 +48,21 @@ def changes(words: argparse.Namespace) -> None:
         told = mount.ask("changes")
         with open(told["lines"], "rb") as lines:
             for change in changes_in(lines):
-                path = change.path + (b"/" if change.kind == "dir" else b"")
-                line = path + b"\0" if words.null else f"{quoted(path)}\n".encode()
-                sys.stdout.buffer.write(change.letter.encode() + b"\t" + line)
+                sys.stdout.buffer.write(printed(change, words.null))
     sys.stdout.flush()
+
+
+def printed(change: Change, is_null: bool) -> bytes:
+    """A change as `git diff --name-status` prints it, or as it does with `-z`."""
+    path = change.path + (b"/" if change.kind == "dir" else b"")
+    letter = change.letter.encode()
+    return letter + b"\0" + path + b"\0" if is_null else letter + f"\t{quoted(path)}\n".encode()
 
 
 def changes_parser() -> argparse.ArgumentParser:
     found = argparse.ArgumentParser(prog="mount-git changes", description=__doc__,
                                     formatter_class=argparse.RawDescriptionHelpFormatter)
     found.add_argument("folder", metavar="FOLDER", help="a folder that `mount-git` shows, or one below it")
-    found.add_argument("-z", "--null", action="store_true", help="end each line with a zero byte, and quote no path")
+    found.add_argument("-z", "--null", action="store_true", help="print a zero byte behind each letter and each path, "
+                       "and quote no path, as `git diff --name-status -z` does")
     return found

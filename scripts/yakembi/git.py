@@ -1,7 +1,7 @@
 """A Git repository as a source of objects: what objects-from-git and git-objects share.
 
 Git runs free of the caller's GIT_* variables, so that the repository is the named one, and without replaced objects, so
-that an id gives the bytes that it names. A refusal carries Git's own last line.
+that an id gives the bytes that it names. A refusal carries what Git said.
 """
 
 import functools
@@ -36,12 +36,8 @@ def remote_environment() -> dict[str, str]:
     return {**environment(), **reaching, "GIT_TERMINAL_PROMPT": "0"}
 
 
-def last_line(done: subprocess.CompletedProcess[bytes]) -> str:
-    """What Git said went wrong, and its last line, for a refusal."""
-    return said(done.stderr)
-
-
 def said(errors: bytes) -> str:
+    """What a refusal adds of a program's errors: the first line by which Git says what went wrong, and the last one."""
     lines = [line.strip() for line in errors.decode(errors="replace").splitlines() if line.strip()]
     said = [line for line in lines if line.startswith(("fatal:", "error:"))][:1] + lines[-1:]
     return "".join(f": {line}" for line in dict.fromkeys(said))
@@ -74,7 +70,7 @@ class Repository:
         self.path = path
         done = self.git("rev-parse", "--git-dir")
         if done.returncode != 0:
-            raise Refusal(f"{path} can't be read as a Git repository{last_line(done)}")
+            raise Refusal(f"{path} can't be read as a Git repository{said(done.stderr)}")
         names = self.git("rev-parse", "--show-object-format")
         if names.stdout.strip() != b"sha1":
             raise Refusal(f"{path} names its objects by {names.stdout.decode().strip() or 'something'}, not by SHA-1")
@@ -114,7 +110,7 @@ class Repository:
         if named.returncode == 0:
             found = self.git("rev-parse", "--verify", named.stdout.decode().strip() + "^{tree}")
         if found.returncode != 0:
-            raise Refusal(f"{revision} names no commit or tree of {self.path}{last_line(found)}")
+            raise Refusal(f"{revision} names no commit or tree of {self.path}{said(found.stderr)}")
         return found.stdout.decode().strip()
 
     def remotes(self) -> list[Remote]:

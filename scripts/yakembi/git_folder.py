@@ -22,7 +22,7 @@ from collections.abc import Iterator, Sequence
 from yakembi.commit_folder import base_of
 from yakembi.control import Fields
 from yakembi.fetching import Bounds, Question, Unanswered
-from yakembi.git import FOLDERS, Refusal, Remote, Repository, entries, environment, last_line
+from yakembi.git import FOLDERS, Refusal, Remote, Repository, entries, environment, said
 from yakembi.partial_clone import SILENCE, Plain
 
 SCRIPT = pathlib.Path(__file__).resolve().parent.parent / "mount-git"
@@ -91,7 +91,7 @@ class GitFolder:
         done = subprocess.run(["git", *words], input=data, capture_output=True, cwd=self.path,
                               env={**environment(), **variables})
         if done.returncode != 0:
-            raise Refusal(f"there is no index for Git{last_line(done)}")
+            raise Refusal(f"there is no index for Git{said(done.stderr)}")
         return done.stdout
 
     def tracked(self) -> list[bytes]:
@@ -141,7 +141,7 @@ def make(folder: GitFolder, repository: Repository, top: str, tree: str, commit:
         index.write_bytes(moved(index.read_bytes(), os.fsencode(empty), os.fsencode(top)))
     differing = repository.git("diff-tree", "-r", "-z", "--no-renames", "--name-only", tree, commit)
     if differing.returncode != 0:
-        raise Refusal(f"there is no index for Git{last_line(differing)}")
+        raise Refusal(f"there is no index for Git{said(differing.stderr)}")
     folder.told.write_bytes(differing.stdout)
     index.replace(folder.index)
 

@@ -10,6 +10,8 @@ import array
 import contextlib
 import ctypes
 import os
+import pathlib
+import re
 import shutil
 import signal
 import socket
@@ -22,6 +24,10 @@ from typing import TypeVar
 from yakembi.git import Refusal
 
 CACHE_ENTRIES = 65_536
+# The kind of a mount of ours, as the kernel tells it with all others; and where it has a folder for each connection.
+KIND = b"fuse.mount-git"
+MOUNTS = pathlib.Path("/proc/self/mountinfo")
+CONNECTIONS = pathlib.Path("/sys/fs/fuse/connections")
 # The statuses of mountd that come with a line on standard error.
 WITH_A_LINE = (2, 3, 4)
 MS_NOSUID, MS_NODEV, MNT_FORCE, MNT_DETACH = 2, 4, 1, 2
@@ -52,7 +58,7 @@ def mount(folder: str) -> int:
 def mount_as_root(folder: str) -> int:
     descriptor = os.open("/dev/fuse", os.O_RDWR | os.O_CLOEXEC)
     words = [f"fd={descriptor}", "rootmode=40000", f"user_id={os.getuid()}", f"group_id={os.getgid()}", *OPTIONS]
-    if LIBC.mount(b"mount-git", os.fsencode(folder), b"fuse.mount-git", MS_NOSUID | MS_NODEV,
+    if LIBC.mount(b"mount-git", os.fsencode(folder), KIND, MS_NOSUID | MS_NODEV,
                   ",".join(words).encode()) != 0:
         number = ctypes.get_errno()
         os.close(descriptor)
@@ -91,14 +97,31 @@ def unmount_unused(folder: str) -> bool:
     return subprocess.run(["fusermount3", "-u", "--", folder], capture_output=True).returncode == 0
 
 
-def abort(folder: str, connection: int) -> None:
-    """Ends the folder's connection, so that mountd ends also while a program has a file open. For others than root this
-    takes the kernel's file of the connection, which is there where fusectl is mounted; else nothing happens."""
-    if os.geteuid() == 0:
-        LIBC.umount2(os.fsencode(folder), MNT_FORCE)
-    else:
-        with contextlib.suppress(OSError), open(f"/sys/fs/fuse/connections/{connection}/abort", "w") as file:
-            file.write("1")
+def abort(folder: str) -> None:
+    """Ends the connection of a mount of ours, so that mountd ends also while a program has a file open; of what else
+    the folder lies on nothing is ended. For others than root this takes the kernel's file of the connection, which is
+    there where fusectl is mounted; else nothing happens."""
+    with contextlib.suppress(OSError):
+        connection = connection_of(folder)
+        if connection is None:
+            return
+        if os.geteuid() == 0:
+            LIBC.umount2(os.fsencode(folder), MNT_FORCE)
+        else:
+            with open(CONNECTIONS / str(connection) / "abort", "w") as file:
+                file.write("1")
+
+
+def connection_of(folder: str) -> int | None:
+    """The number by which the kernel names the connection of the last mount of ours at the folder, whose path has no
+    links; None where none is. Nobody is asked but the kernel, who may have to be waited for."""
+    found = None
+    for row in MOUNTS.read_bytes().splitlines():
+        head, _, tail = row.partition(b" - ")
+        _, _, device, _, place, *_ = head.split(b" ")
+        if re.sub(rb"\\([0-7]{3})", lambda code: bytes([int(code[1], 8)]), place) == os.fsencode(folder):
+            found = int(device.partition(b":")[2]) if tail.startswith(KIND + b" ") else None
+    return found
 
 
 def can_mount() -> bool:
@@ -128,8 +151,8 @@ class Shown:
         finally:
             os.close(descriptor)
         try:
-            # It is answered once the mount is open, or fails once mountd ended. The connection is named by its device.
-            self.connection = os.minor(os.stat(folder).st_dev)
+            # It is answered once the mount is open, or where somebody unmounted it; or fails once mountd ended.
+            os.stat(folder)
         except OSError:
             unmount(folder)
             raise Unopened(self.last_words().removeprefix("mountd: open ")) from None
@@ -164,15 +187,20 @@ class Showing:
         self.words = [os.fspath(mountd), "fuse", "--root", root, *[str(word) for word in source], "--overlay", overlay,
                       "--cache-entries", str(CACHE_ENTRIES), "--since", str(since), "--threads", str(threads)]
         self.folder = folder
+        # As the kernel tells it. To look for links in it later could take an answer of mountd's.
+        self.place = os.path.realpath(folder)
         self.seconds_locked = seconds_locked
         self.is_ended = False
         # Whoever has it may put another mountd in the place of the one that shows the folder.
         self.turn = threading.Lock()
         self.shown: Shown | None = None
+        # Why nothing shows the folder any more, though each mountd closed the overlay well.
+        self.lost: str | None = None
 
-    def open(self) -> None:
-        """Shows it. `Unopened`, with mountd's own word, if the overlay isn't opened."""
-        self.shown = self.opened(None)
+    def open(self, descriptor: int | None = None) -> None:
+        """Shows it, by the descriptor if it is mounted already. `Unopened`, with mountd's own word, if the overlay
+        isn't opened."""
+        self.shown = self.opened(descriptor)
         if self.is_ended:
             self.end()
 
@@ -193,8 +221,9 @@ class Showing:
                     time.sleep(0.1)
             descriptor = None
 
-    def wait(self) -> str | None:
-        """Waits until the folder is unmounted, or nothing shows it; what mountd said, where it didn't end well."""
+    def wait(self) -> None:
+        """Waits until the folder is unmounted, or nothing shows it. `Unclosed`, if the last mountd didn't end well;
+        `Unopened`, if none could be started after it and nobody ended the mount."""
         while True:
             shown = self.shown
             assert shown is not None
@@ -202,26 +231,47 @@ class Showing:
             with self.turn:
                 if self.shown is shown:
                     unmount(self.folder)
-                    return None if shown.child.returncode == 0 else said
+                    break
+        if shown.child.returncode != 0:
+            raise Unclosed(said)
+        if self.lost is not None:
+            raise Unopened(self.lost)
 
     def while_closed(self, work: Callable[[], Result]) -> Result:
         """What the work gives, over an overlay that is closed meanwhile. A `Refusal`, if the folder is in use: then it
-        stays as it is. Programs that come once it is mounted again wait for the next mountd."""
+        stays as it is. Programs that come once it is mounted again wait for the next mountd. `Unopened`, if there is
+        none: then nothing is mounted any more, and the work may have been done."""
         with self.turn:
-            descriptor = self.mounted_again()
+            self.leave()
+            with self.or_lost():
+                descriptor = self.mounted_again()
             try:
                 return work()
             finally:
-                self.shown = self.opened(descriptor)
+                with self.or_lost():
+                    self.open(descriptor)
 
-    def mounted_again(self) -> int:
-        """Unmounts the folder and mounts it at once; the descriptor that the next mountd is given."""
+    def leave(self) -> None:
+        """Unmounts the folder, unless it is in use."""
         with contextlib.suppress(OSError):
             # Answered after the closes before it, of which the last one of a removed file takes that away.
             os.statvfs(self.folder)
         if self.is_ended or not unmount_unused(self.folder):
             raise Refusal(f"{self.folder} is in use: it is unmounted for a moment for this, so leave the folder and "
                           "close its files")
+
+    @contextlib.contextmanager
+    def or_lost(self) -> Iterator[None]:
+        """What fails here leaves nothing mounted, which `wait` tells too, unless somebody ended the mount."""
+        try:
+            yield
+        except (Unopened, OSError) as problem:
+            if not self.is_ended:
+                self.lost = str(problem)
+            raise Unopened(str(problem)) from None
+
+    def mounted_again(self) -> int:
+        """Mounts the folder, which was just unmounted, at once; the descriptor that the next mountd is given."""
         descriptor = mount(self.folder)
         assert self.shown is not None
         status = self.shown.child.wait()
@@ -235,8 +285,7 @@ class Showing:
         """Unmounts the folder, be it in use, upon which mountd closes the overlay and ends."""
         self.is_ended = True
         if not unmount_unused(self.folder):
-            if self.shown is not None:
-                abort(self.folder, self.shown.connection)
+            abort(self.place)
             unmount(self.folder)
 
 

@@ -80,7 +80,7 @@ def mount_point(path: str) -> str:
         except OSError:
             raise Refusal(f"{left} can't be unmounted") from None
         tell(f"{left} is unmounted")
-    if os.path.ismount(path):
+    if os.path.ismount(os.path.realpath(path)):
         raise Refusal(f"something is mounted on {path}")
     if names:
         raise Refusal(f"{path} isn't empty")
@@ -231,21 +231,28 @@ class Asked:
     def closed(self, output: int | BinaryIO, command: str, *more: str) -> subprocess.CompletedProcess[bytes]:
         """A run of `mountd` over the closed overlay, whose output goes there."""
         words = [self.mountd, command, "--root", self.noted().tree, *self.source, "--overlay", self.overlay.path, *more]
-        try:
+        with ends_told(self.overlay):
             done = self.below.while_closed(lambda: subprocess.run(words, stdin=subprocess.DEVNULL, stdout=output,
                                                                  stderr=subprocess.PIPE))
-        except Unclosed as problem:
-            raise Refusal(f"the overlay {self.overlay.path} wasn't closed well: {problem}") from None
-        except (Unopened, OSError) as problem:
-            raise Refusal(f"mountd wasn't opened again: {problem}") from None
         if done.returncode != 0:
             raise Refusal(f"mountd ended with status {done.returncode}{said(done.stderr)}")
         return done
 
     def committed(self, fields: Fields, folder: pathlib.Path) -> Fields:
         """The next commit is put on that one."""
-        self.overlay.write_note(self.noted()._replace(commit=fields["commit"]))
+        self.overlay.write_note(self.noted()._replace(commit=control.text_of(fields, "commit")))
         return {}
+
+
+@contextlib.contextmanager
+def ends_told(overlay: OverlayFolder) -> Iterator[None]:
+    """Refuses with the reason why a mountd that had the overlay didn't end well, or none came after it."""
+    try:
+        yield
+    except Unclosed as problem:
+        raise Refusal(f"the overlay {overlay.path} wasn't closed well: {problem}") from None
+    except Unopened as problem:
+        raise Refusal(f"mountd wasn't opened again, and nothing is mounted any more: {problem}") from None
 
 
 @contextlib.contextmanager
@@ -260,8 +267,8 @@ def reachable(folder: str, answers: Answers) -> Iterator[None]:
 
 
 def show(words: argparse.Namespace, repository: Repository, noted: Noted, source: list[str], overlay: OverlayFolder,
-         folder: str) -> str | None:
-    """Shows the folder by `mountd fuse`; what that said where it didn't end well."""
+         folder: str) -> None:
+    """Shows the folder by `mountd fuse`, until nothing is mounted any more."""
     os.makedirs(folder, exist_ok=True)
     # Objects that lie here are read so soon that no other request need go before, and one thread wakes nobody.
     threads = words.threads or (THREADS if "--remote" in source else 1)
@@ -276,9 +283,9 @@ def show(words: argparse.Namespace, repository: Repository, noted: Noted, source
             raise unopened(str(refusal), overlay.path, shlex.join(repair)) from None
         except FileNotFoundError as problem:
             raise Refusal(f"{words.mountd} can't be run ({problem.strerror}): `make run` builds it") from None
-        with reachable(folder, answers):
+        with reachable(folder, answers), ends_told(overlay):
             print(f"mounted {folder}", flush=True)
-            return showing.wait()
+            showing.wait()
 
 
 def unopened(word: str, overlay: str, repair: str) -> Refusal:
@@ -296,9 +303,7 @@ def run(words: argparse.Namespace) -> None:
     with overlay_at(words.overlay) as overlay:
         noted = tree_to_show(repository, words.revision, overlay)
         with source_of(repository, words, noted.tree) as source:
-            problem = show(words, repository, noted, source, overlay, folder)
-    if problem:
-        raise Refusal(f"the overlay {overlay.path} wasn't closed well: {problem}")
+            show(words, repository, noted, source, overlay, folder)
 
 
 def number_of_threads(text: str) -> int:
@@ -344,11 +349,8 @@ def main() -> int:
     signal.signal(signal.SIGTERM, lambda *_: sys.exit(1))
     try:
         command(words)
-    except Refusal as refusal:
-        tell(str(refusal))
-        return 1
-    except OSError as problem:
-        tell(f"{problem.filename}: {problem.strerror}" if problem.filename else str(problem))
+    except (Refusal, OSError) as problem:
+        tell(control.said_of(problem))
         return 1
     except KeyboardInterrupt:
         return 1

@@ -2,16 +2,21 @@
 
 The files whose names are numbers are mountd's, and so are `lock` and `journal`. The file `mount-git` beside them is
 ours: who holds its lock has the overlay, also while mountd is closed and opened again, and its line tells the tree, the
-commit's time, and on which commit the next one of the folder's is put.
+commit's time, and on which commit the next one of the folder's is put. Since its lock is held no other file takes its
+place. Each line is as long as the one before it, in one sector of a disk, and is written over that at once: whatever
+is killed or fails, the old line or the new one is read.
 """
 
+import errno
 import fcntl
 import os
 import re
 from typing import NamedTuple
 
 NOTE = "mount-git"
-NOTE_LINE = re.compile(r"([0-9a-f]{40}) ([0-9]+)(?: ([0-9a-f]{40}))?\n")
+NOTE_LINE = re.compile(rb"([0-9a-f]{40}) ([0-9]+)(?: ([0-9a-f]{40}))?\n")
+# Zeros before the seconds make each line as long as one of two ids and 2^64.
+NOTE_BYTES = 103
 NUMBERED = re.compile("0|[1-9][0-9]*")
 # Of a killed run: changes that aren't in numbered files yet.
 JOURNAL = "journal"
@@ -36,35 +41,64 @@ class Noted(NamedTuple):
     commit: str | None = None
 
 
+def line_of(noted: Noted) -> bytes:
+    """The note's line, of NOTE_BYTES bytes."""
+    end = f" {noted.commit}\n" if noted.commit else "\n"
+    digits = NOTE_BYTES - len(noted.tree) - 1 - len(end)
+    return f"{noted.tree} {noted.seconds:0{digits}}{end}".encode()
+
+
 class OverlayFolder:
     """The folder, made where it isn't there, and held until `close`."""
 
     def __init__(self, path: str | os.PathLike[str]) -> None:
         os.makedirs(path, exist_ok=True)
         self.path = os.path.abspath(path)
-        self.note = open(os.path.join(self.path, NOTE), "a+")
+        self.note = os.open(os.path.join(self.path, NOTE), os.O_RDWR | os.O_CREAT | os.O_CLOEXEC, 0o666)
         try:
             fcntl.flock(self.note, fcntl.LOCK_EX | fcntl.LOCK_NB)
         except OSError:
-            self.note.close()
+            self.close()
             raise InUse from None
 
     def close(self) -> None:
-        self.note.close()
+        os.close(self.note)
 
     def is_fresh(self) -> bool:
         return not any(name == JOURNAL or NUMBERED.fullmatch(name) for name in os.listdir(self.path))
 
     def noted(self) -> Noted | None:
         """What we wrote down; None where we didn't."""
-        self.note.seek(0)
-        line = NOTE_LINE.fullmatch(self.note.read())
-        return Noted(line[1], int(line[2]), line[3]) if line else None
+        line = NOTE_LINE.match(os.pread(self.note, NOTE_BYTES, 0))
+        return Noted(line[1].decode(), int(line[2]), line[3].decode() if line[3] else None) if line else None
 
     def write_note(self, noted: Noted) -> None:
-        self.note.truncate(0)
-        self.note.write(" ".join([noted.tree, str(noted.seconds), *([noted.commit] if noted.commit else [])]) + "\n")
-        self.note.flush()
+        """Writes it down, and waits until the disk has it. An OSError where that fails: then what was there is still
+        there, or this is."""
+        if noted == self.noted():
+            return
+        try:
+            self.write_over(line_of(noted))
+            self.keep_name()
+        except OSError as problem:
+            raise OSError(problem.errno, problem.strerror, os.path.join(self.path, NOTE)) from None
+
+    def write_over(self, line: bytes) -> None:
+        if os.fstat(self.note).st_size < len(line):
+            # Of an older version, or none: longer by zeros before its bytes are others.
+            os.ftruncate(self.note, len(line))
+            os.fsync(self.note)
+        if os.pwrite(self.note, line, 0) != len(line):
+            raise OSError(errno.EIO, "it isn't written whole")
+        os.fsync(self.note)
+
+    def keep_name(self) -> None:
+        """Waits until the disk has the note's name."""
+        folder = os.open(self.path, os.O_RDONLY | os.O_DIRECTORY | os.O_CLOEXEC)
+        try:
+            os.fsync(folder)
+        finally:
+            os.close(folder)
 
     def state_root(self) -> str | None:
         """The tree that file 0 names, which a clean close leaves; None where there is none."""

@@ -7,6 +7,8 @@ import zlib
 from collections.abc import Iterator
 from typing import IO
 
+from yakembi.git import PIECE
+
 KINDS = {b"tree": 2, b"blob": 3}
 
 
@@ -27,9 +29,20 @@ def write_pack(pack: IO[bytes], objects: list[pathlib.Path]) -> None:
 def pieces_of(objects: list[pathlib.Path]) -> Iterator[bytes]:
     yield struct.pack(">4sII", b"PACK", 2, len(objects))
     for path in objects:
-        header, _, body = path.read_bytes().partition(b"\0")
-        yield entry_header(KINDS[header.split(b" ")[0]], len(body))
-        yield zlib.compress(body)
+        yield from entry_of(path)
+
+
+def entry_of(path: pathlib.Path) -> Iterator[bytes]:
+    """A framed object as the pack has it. No more than a piece of it is held at a time."""
+    deflater = zlib.compressobj()
+    with path.open("rb") as file:
+        header, _, piece = file.read(PIECE).partition(b"\0")
+        word, _, length = header.partition(b" ")
+        yield entry_header(KINDS[word], int(length))
+        while piece:
+            yield deflater.compress(piece)
+            piece = file.read(PIECE)
+    yield deflater.flush()
 
 
 def entry_header(kind: int, length: int) -> bytes:
