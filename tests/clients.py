@@ -1,11 +1,12 @@
 """Clients of `mountd serve`, which never wait without an end, and the whole tree as one of them sees it."""
 
+import time
 import urllib.parse
 from collections.abc import Iterator
 
 import paths  # before what stands in scripts/
 from helpers.clients import ENDED, LONGEST_RUN, NO_REPLY, Client, Service, serving, start_serve
-from helpers.running import Ending
+from helpers.running import PATIENCE, Ending
 from protocol import path_text
 from yakembi.tree_model import LONGEST_DATA, MOST_ENTRIES, Node, Nodes, Path
 
@@ -47,8 +48,10 @@ def ask_all(client: Client, lines: list[bytes]) -> list[bytes]:
 
 
 def asked_again(client: Client, line: bytes) -> bytes:
-    reply = b"fault fetch "
-    while reply.startswith(b"fault fetch "):
+    """The reply, once no fetch fails any more, or some time is over."""
+    end = time.monotonic() + PATIENCE
+    reply = client.ask(line)
+    while reply.startswith(b"fault fetch ") and time.monotonic() < end:
         reply = client.ask(line)
     return reply
 

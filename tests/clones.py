@@ -2,6 +2,7 @@
 
 import pathlib
 import random
+import subprocess
 import sys
 
 from checks import git
@@ -48,6 +49,7 @@ class Clone:
 
     def behave(self, mode: str) -> None:
         """From now on the remote behaves so: see `failing_remote`."""
+        self.mode = mode
         place = self.remote / "mode.new"
         place.write_text(mode)
         place.rename(self.remote / "mode")
@@ -56,6 +58,10 @@ class Clone:
         """How often the remote was asked."""
         starts = self.remote / "starts"
         return len(starts.read_text().splitlines()) if starts.exists() else 0
+
+    def running(self) -> list[str]:
+        """The numbers of the processes that answer for the remote."""
+        return subprocess.run(["pgrep", "-f", str(self.remote)], stdout=subprocess.PIPE, text=True).stdout.split()
 
     def arrived(self) -> list[str]:
         """The ids of what came since it was cloned, each as often as it came."""
