@@ -1,10 +1,11 @@
 //! A mounted folder served by several threads, over one shared mount.
 //!
 //! Turns of requests are taken one after another, under one lock, and each is a turn of `Shown`, over the replies that
-//! the shared mount gives one of its passes. What isn't in memory is fetched before: a thread makes the look that its
-//! request's turn begins with by a pass of its own, without that lock, and fetches what that needs from a source of its
-//! own. Such passes are told of looks alone, which change nothing. If a look meets a fault, the request is answered
-//! with `EIO` and does nothing. Messages are received, read and answered without that lock too.
+//! the shared mount gives one of its passes. What isn't in memory is fetched before: a thread makes a look for what
+//! its request's turn needs first (for a rename not for what leads to its old path) by a pass of its own, without that
+//! lock, and fetches what that needs from a source of its own. Such passes are told of looks alone, which change
+//! nothing. If a look meets a fault, the request is answered with `EIO` and does nothing. Messages are received, read
+//! and answered without that lock too.
 //!
 //! Of each thread is told that each message that it received had its turn, after others of this folder, and what was
 //! said in it is what was sent. Which turns of the folder were whose isn't told; that others go on while a thread waits

@@ -5,7 +5,7 @@ use Rattle.eden_fuse_format.specs.Asked.{Asked}
 use Rattle.eden_fuse_session.specs.declared.turning.Turned.{Turned}
 use Rattle.eden_fuse_session.specs.Sending.{Known, Gives, IsAtEnd}
 use Rattle.eden_fuse_session.specs.Turns.{Told, Turn}
-use Rattle.eden_fuse_session.specs.Sessions.{Serving, Serves, Session}
+use Rattle.eden_fuse_session.specs.Sessions.{Serving, Serves, Session, answer_room}
 
 -- nothing was received
 gives_none : (w : Known) → Gives w w []
@@ -22,10 +22,10 @@ gives_more (Some old) v w ms ns (rest, is, left) b = gives_on old rest w ms ns i
 
 module _ {S : Type 0} (answers : S → Header → Asked → Told → S → Type 0) where
   -- one more message had its turn
-  serves_more : (ms : List (List ℕ)) (m : List ℕ) (s t u : Serving S) (room : ℕ) (r : Turned) → Serves answers ms s t
-      → Turn answers m t.0 u.0 t.1 u.1 room r → Serves answers (ms ++ m ∷ []) s u
-  serves_more [] m s t u room r same turn = (u, room, r, subst (λ (x : Serving S). Turn answers m x.0 u.0 x.1 u.1 room r) (sym same) turn, refl)
-  serves_more (n ∷ ms) m s t u room r (v, k, e, first, rest) turn = (v, k, e, first, serves_more ms m v t u room r rest turn)
+  serves_more : (ms : List (List ℕ)) (m : List ℕ) (s t u : Serving S) (r : Turned) → Serves answers ms s t
+      → Turn answers m t.0 u.0 t.1 u.1 answer_room r → Serves answers (ms ++ m ∷ []) s u
+  serves_more [] m s t u r same turn = (u, r, subst (λ (x : Serving S). Turn answers m x.0 u.0 x.1 u.1 answer_room r) (sym same) turn, refl)
+  serves_more (n ∷ ms) m s t u r (v, e, first, rest) turn = (v, e, first, serves_more ms m v t u r rest turn)
 
   -- all that was received so far had its turn
   pub record Through (old new : Serving S) (waiting left : Known) : Type 0 where
@@ -42,12 +42,12 @@ module _ {S : Type 0} (answers : S → Header → Asked → Told → S → Type 
   through_kept s t w v x same through = subst (λ (k : Known). Through s t w k) (sym same) through
 
   -- one more message was received, and had its turn
-  pub through_more : (s t u : Serving S) (w v x : Known) (m : List ℕ) (room : ℕ) (r : Turned) → Through s t w v → Gives v x (m ∷ [])
-      → Turn answers m t.0 u.0 t.1 u.1 room r → Through s u w x
-  through_more s t u w v x m room r through gives turn = record {
+  pub through_more : (s t u : Serving S) (w v x : Known) (m : List ℕ) (r : Turned) → Through s t w v → Gives v x (m ∷ [])
+      → Turn answers m t.0 u.0 t.1 u.1 answer_room r → Through s u w x
+  through_more s t u w v x m r through gives turn = record {
     messages = through.messages ++ m ∷ [];
     given = gives_more w v x through.messages (m ∷ []) through.given gives;
-    served = serves_more through.messages m s t u room r through.served turn;
+    served = serves_more through.messages m s t u r through.served turn;
   }
 
   -- no more will come

@@ -12,12 +12,16 @@ use Rattle.eden_fuse_session.specs.Turns.{Told, Line, Turn}
 abbrev pub Serving : Type 0 → Type 0
 Serving S = S × Line
 
+-- the room that each answer has at least, in bytes: 64 KiB, and 4 KiB for what stands before them
+unfoldable pub answer_room : ℕ
+answer_room = 69632
+
 module _ {S : Type 0} (answers : S → Header → Asked → Told → S → Type 0) where
-  -- each message in order had its turn; a turn's room is for its answer
+  -- each message in order had its turn, with that room for its answer
   abbrev pub Serves : List (List ℕ) → Serving S → Serving S → Type 0
   Serves [] s t = s ≡ t
   Serves (message ∷ messages) s t =
-      (u : Serving S) × (room : ℕ) × (r : Turned) × Turn answers message s.0 u.0 s.1 u.1 room r × Serves messages u t
+      (u : Serving S) × (r : Turned) × Turn answers message s.0 u.0 s.1 u.1 answer_room r × Serves messages u t
 
 -- how it ended: with the last message; at one that couldn't be received; or before the first, for want of memory
 abbrev pub EndsBy : Result ⊤ SessionFault → List (List ℕ) → Known → Type 0

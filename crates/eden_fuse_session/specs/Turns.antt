@@ -37,14 +37,26 @@ text_of unique t = out_header (length t.1) t.0 unique ++ t.1
 abbrev pub Line : Type 0
 Line = Known × ℕ
 
--- an answer was sent in one piece, or why it wasn't: the sender failed, or the room that there was is too small for it
+-- what is told if there is no memory for an answer: ENOMEM, which is 12; its text has 16 bytes
+abbrev pub no_memory : ℕ × List ℕ
+no_memory = (error_of (answer.Refused 12), [])
+
+-- that was sent in one piece, or why nothing was: the sender failed, or the room is too small even for it
+abbrev pub Refuses : ℕ → Line → Line → ℕ → Turned → Type 0
+Refuses unique old new room turned.NoMemory = Sends old.0 new.0 (text_of unique no_memory) × (new.1 ≡ old.1)
+Refuses unique old new room turned.NotSent = (new.0 ≡ old.0) × (new.1 ≡ old.1 + 1)
+Refuses unique old new room turned.NoRoom = (new.0 ≡ old.0) × (new.1 ≡ old.1) × (room < 16)
+Refuses unique old new room r = ⊥
+
+-- an answer was sent in one piece, or the sender failed, or it was refused, since the room that there was is too small for it
 abbrev pub Replies : ℕ → Told → Line → Line → ℕ → Turned → Type 0
 Replies unique None old new room turned.Silent = (new.0 ≡ old.0) × (new.1 ≡ old.1)
 Replies unique None old new room r = ⊥
 Replies unique (Some t) old new room turned.Answered = Sends old.0 new.0 (text_of unique t) × (new.1 ≡ old.1)
 Replies unique (Some t) old new room turned.NotSent = (new.0 ≡ old.0) × (new.1 ≡ old.1 + 1)
-Replies unique (Some t) old new room turned.NoMemory = (new.0 ≡ old.0) × (new.1 ≡ old.1) × (room < length (text_of unique t))
-Replies unique (Some t) old new room r = ⊥
+Replies unique (Some t) old new room turned.Unframed = ⊥
+Replies unique (Some t) old new room turned.Silent = ⊥
+Replies unique (Some t) old new room r = Refuses unique old new room r × (room < length (text_of unique t))
 
 module _ {S : Type 0} (answers : S → Header → Asked → Told → S → Type 0) where
   -- what was done for what a message is; ENOSYS is 38, EINVAL 22

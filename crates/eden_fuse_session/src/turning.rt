@@ -1,11 +1,13 @@
-ghost use Rattle.std.specs.Prelude.{◌≤◌, [], vec_capacity};
+ghost use Rattle.std.specs.Prelude.{◌≡◌, ◌≤◌, [], vec_capacity};
 ghost use Rattle.eden_fuse_format.specs.Answers.{IsBrief};
 ghost use Rattle.eden_fuse_session.specs.declared.service.Said.TheVariants.{Answers};
-ghost use Rattle.eden_fuse_session.specs.Turns.{IsBriefly, Replies, Turn, told};
+ghost use Rattle.eden_fuse_session.specs.Turns.{IsBriefly, Refuses, Replies, Turn, told};
 
 use crate::sender::Sender;
 use crate::service::{Said, Service};
 use eden_fuse_format::{Answer, Message, put_answer, read_message};
+
+const ENOMEM: u32 = 12;
 
 const EINVAL: u32 = 22;
 
@@ -20,10 +22,29 @@ pub enum Turned {
     Silent,
     /// The sender failed.
     NotSent,
-    /// There was no memory for the answer: the room that was given is too small for it.
+    /// There was no memory for the answer, since the room that was given is too small for it: it was refused with
+    /// `ENOMEM`.
     NoMemory,
+    /// There wasn't even memory for that: the room that was given has fewer than 16 bytes.
+    NoRoom,
     /// It was no message.
     Unframed,
+}
+
+// Refuses a request for want of memory, in place of an answer that the room is too small for.
+fn refuse<C: Sender>(out: &mut Vec<u8>, sender: &mut C, unique: u64) -> Turned
+    requires { out.old.items ≡ [] }
+    ensures refuses { Refuses unique (C.sent sender.old, C.failures sender.old)
+        (C.sent sender.new, C.failures sender.new) (vec_capacity out.old) result }
+    ensures room { vec_capacity out.old ≤ vec_capacity out.new }
+{
+    match put_answer(out, unique, &Answer::Refused(ENOMEM)) {
+        Err(_) => Turned::NoRoom,
+        Ok(()) => match sender.send(out.as_slice()) {
+            Ok(()) => Turned::NoMemory,
+            Err(_) => Turned::NotSent,
+        },
+    }
 }
 
 // Sends an answer.
@@ -35,7 +56,7 @@ fn reply<C: Sender>(out: &mut Vec<u8>, sender: &mut C, unique: u64, answer: &Ans
 {
     out.clear();
     match put_answer(out, unique, answer) {
-        Err(_) => Turned::NoMemory,
+        Err(_) => refuse(out, sender, unique),
         Ok(()) => match sender.send(out.as_slice()) {
             Ok(()) => Turned::Answered,
             Err(_) => Turned::NotSent,
@@ -64,7 +85,8 @@ fn say<C: Sender>(
 }
 
 /// Answers one message of the kernel. Both rooms are for what passes by; what is in them doesn't matter. `out` doesn't
-/// shrink, and want of memory comes only if it is smaller than the answer.
+/// shrink, and want of memory comes only if it is smaller than the answer; then the message is refused with `ENOMEM`,
+/// for which 16 bytes of it are enough.
 pub fn turn<C: Sender, S: Service>(
     message: &[u8],
     out: &mut Vec<u8>,

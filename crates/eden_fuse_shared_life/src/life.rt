@@ -147,7 +147,8 @@ fn live_tied<
 /// settings but one, and closes it. There is a source for each pass.
 ///
 /// Messages have their turns one after another, and none waits for an object that another message needs, unless the
-/// object went again between a look and its turn. The session ends where no more messages come, as after an unmount:
+/// object went again between a look and its turn, or the other message is a rename, and a directory above its old path
+/// went from memory after that was looked up. The session ends where no more messages come, as after an unmount:
 /// then all that waits is stored, and the overlay is closed, after a session's fault too, with the same commit and the
 /// next inode number that was reached. Only where the close fails are the files left without their state.
 ///

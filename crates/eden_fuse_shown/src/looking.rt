@@ -32,7 +32,9 @@ fn look_to_cut(path: Path, size: u64) -> Request
     }
 }
 
-/// A look for which a mount needs what it needs for the request, and which is answered in few bytes.
+/// A look for which a mount needs what it needs for the request, and which is answered in few bytes. For a rename it
+/// needs less: what leads to the new path, and the directory that is replaced there, which has to be empty. What leads
+/// to the old path was loaded when the kernel looked that up; if it went from memory since, the turn waits for it.
 fn look_of(request: Request) -> Request
     ensures { ChangesNothing result }
 {
@@ -51,7 +53,7 @@ fn look_of(request: Request) -> Request
         Request::Mkdir(path) => Request::Kind(path),
         Request::Symlink(path, _target) => Request::Kind(path),
         Request::Unlink(path) => Request::Kind(path),
-        Request::Rename(path, _goal) => Request::Kind(path),
+        Request::Rename(_path, goal) => Request::List(goal, None, 1),
     }
 }
 
