@@ -32,7 +32,8 @@ impl<F, J> Model for Journaled<F, J> {
 }
 
 impl<F, J> Journaled<F, J> {
-    /// The files, which have no state, with that journal over them. Nothing has failed yet.
+    /// The files with that journal over them. Nothing has failed yet. Changes are noted as where no state is stored:
+    /// whoever doesn't know whether one is asks `taken_in`.
     pub fn new(files: F, journal: J) -> Self
         ensures { result ≡ record { files = files; journal = journal; failures = 0 } }
     {

@@ -1,4 +1,4 @@
-ghost use Rattle.std.specs.Prelude.{◌≡◌, Some, IfOk, IfErr, OnOk, OnErr, IsOk};
+ghost use Rattle.std.specs.Prelude.{◌≡◌, ◌≢◌, true, false, None, Some, Ok, IfOk, IfErr, OnOk, OnErr, IsOk};
 ghost use Rattle.eden_overlay.specs.declared.files.FilesFault.TheVariants as fault;
 ghost use Rattle.eden_overlay_journal.specs.Changes.{IsHeadIn, ListsChanges, change_of, changes_in, noted, unchanged};
 ghost use Rattle.std.specs.Option.{option_copied};
@@ -50,7 +50,11 @@ impl<W: World> Journal<W> for MemoryJournal<W> {
         Ok(copied(alloc, self.files.get(&number))?)
     }
 
-    fn head(&mut self, number: u64) -> Result<Option<Option<Head>>, FilesFault> {
+    fn head(&mut self, number: u64) -> Result<Option<Option<Head>>, FilesFault>
+        ensures found { IfOk result (IsHeadIn (changes_in self.old.files number)) }
+        ensures unchanged { changes_in self.new.files ≡ changes_in self.old.files }
+        ensures done { IsOk result }
+    {
         Ok(head_in(self.files.get(&number)))
     }
 
@@ -65,14 +69,23 @@ impl<W: World> Journal<W> for MemoryJournal<W> {
         Ok(())
     }
 
-    fn remove(&mut self, number: u64) -> Result<bool, FilesFault> {
+    fn remove(&mut self, number: u64) -> Result<bool, FilesFault>
+        ensures noted { result ≡ Ok true
+            → changes_in self.new.files ≡ noted (changes_in self.old.files) number (Some None) }
+        ensures no_room { result ≡ Ok false → changes_in self.old.files number ≡ None }
+        ensures same { result ≢ Ok true → changes_in self.new.files ≡ changes_in self.old.files }
+        ensures done { IsOk result }
+    {
         match self.files.insert(number, None) {
             Ok(_) => Ok(true),
             Err(_) => Ok(false),
         }
     }
 
-    fn pass(&mut self, number: u64) -> Result<(), FilesFault> {
+    fn pass(&mut self, number: u64) -> Result<(), FilesFault>
+        ensures ok { changes_in self.new.files ≡ noted (changes_in self.old.files) number None }
+        ensures done { IsOk result }
+    {
         self.files.remove(&number);
         Ok(())
     }

@@ -105,6 +105,7 @@ pub(crate) const STATE_NUMBER: u64 = 0;
 
 // Does to the files what a journal says that was left, and empties it. Where the state is stored the journal is from
 // before that, since it was emptied then: a program that knows of no journals passed it over. Answers whether it is.
+// After an error the journal still says over the files what it said, so that it can be done again.
 pub(crate) fn take_in<W: World, F: Files<W>, J: Journal<W>>(
     alloc: Global,
     files: &mut F,
@@ -113,6 +114,8 @@ pub(crate) fn take_in<W: World, F: Files<W>, J: Journal<W>>(
     ensures said { W.honest → OnOk result (J.changes journal.new ≡ unchanged) }
     ensures stored { W.honest → OnOk result (F.stored files.new
         ≡ at_opening (J.changes journal.old) (F.stored files.old)) }
+    ensures kept { W.honest → OnErr result (changed (J.changes journal.new) (F.stored files.new)
+        ≡ changed (J.changes journal.old) (F.stored files.old)) }
 {
     match files.head(STATE_NUMBER)? {
         Some(_) => {
