@@ -123,7 +123,7 @@ impl<W: World, F: Files<W>, J: Journal<W>> Files<W> for Journaled<F, J> {
 
     fn remove(&mut self, number: u64) -> Result<(), FilesFault> {
         let (files, journal) = (&mut self.files, &mut self.journal);
-        let answer = remove::<W, _, _>(files, journal, self.standing.is_closed, number);
+        let answer = remove::<W, _, _>(files, journal, self.standing, number);
         if number == STATE_NUMBER && answer.is_ok() {
             self.standing.is_closed = false;
         }
@@ -141,7 +141,7 @@ impl<W: World, F: Files<W>, J: Journal<W>> Files<W> for Journaled<F, J> {
 
     fn list(&mut self, alloc: Global) -> Result<Vec<u64>, FilesFault> {
         let (files, journal) = (&mut self.files, &mut self.journal);
-        let answer = list::<W, _, _>(alloc, files, journal, self.standing.is_promised);
+        let answer = list::<W, _, _>(alloc, files, journal, self.standing);
         self.failures = count(self.failures, &answer);
         answer
     }

@@ -42,6 +42,8 @@ impl<W: World> Journal<W> for MemoryJournal<W> {
         false
     }
 
+    fn put_off(&mut self) {}
+
     fn read(&mut self, alloc: Global, number: u64) -> Result<Option<Option<Vec<u8>>>, FilesFault>
         ensures found { IfOk result (λ o. change_of o ≡ changes_in self.old.files number) }
         ensures unchanged { changes_in self.new.files ≡ changes_in self.old.files }
@@ -91,6 +93,13 @@ impl<W: World> Journal<W> for MemoryJournal<W> {
     }
 
     fn settle(&mut self) -> Result<(), FilesFault>
+        ensures unchanged { changes_in self.new.files ≡ changes_in self.old.files }
+        ensures done { IsOk result }
+    {
+        Ok(())
+    }
+
+    fn settle_names(&mut self) -> Result<(), FilesFault>
         ensures unchanged { changes_in self.new.files ≡ changes_in self.old.files }
         ensures done { IsOk result }
     {
