@@ -7,14 +7,14 @@ use crate::seen::LONGEST_RECORD;
 use eden_model::Outside;
 use eden_overlay::FilesFault;
 use eden_overlay_format::{HEADER_LEN, Head};
-use eden_plain_files::FolderFault;
+use eden_plain_files::{FolderFault, sync_names};
 use itoa::Buffer;
 use std::alloc::Global;
 use std::collections::BTreeMap;
 use std::path::PathBuf;
 use std::rt::{Clock, Files};
 
-/// A journal with more bytes is full.
+/// A journal with more bytes is full, and one that could not be emptied once it has so many more.
 const FULL: u64 = 16 << 20;
 
 /// Where a file's bytes lie in the journal, and when that was noted.
@@ -36,6 +36,8 @@ pub struct FolderJournal<R: Files> {
     pieces: BTreeMap<u64, Option<Piece>>,
     /// For the next record.
     room: Vec<u8>,
+    /// With more bytes it is full.
+    full_at: u64,
 }
 
 impl<R: Files + Clock + Drop> FolderJournal<R> {
@@ -51,6 +53,7 @@ impl<R: Files + Clock + Drop> FolderJournal<R> {
             alloc,
             pieces: BTreeMap::new(alloc),
             room: Vec::new(alloc),
+            full_at: FULL,
         };
         for _ in 0..u64::MAX {
             if !journal.take_record()? {
@@ -160,7 +163,11 @@ impl<R: Files + Clock + Drop> Journal<Outside> for FolderJournal<R> {
     ghost changes = { λ _ _. None };
 
     fn is_full(&self) -> bool {
-        self.log.end() > FULL
+        self.log.end() > self.full_at
+    }
+
+    fn put_off(&mut self) {
+        self.full_at = self.log.end().saturating_add(FULL);
     }
 
     fn read(&mut self, alloc: Global, number: u64) -> Result<Option<Option<Vec<u8>>>, FilesFault> {
@@ -244,6 +251,13 @@ impl<R: Files + Clock + Drop> Journal<Outside> for FolderJournal<R> {
         }
     }
 
+    fn settle_names(&mut self) -> Result<(), FilesFault> {
+        match sync_names(self.log.files(), self.folder.as_str()) {
+            Ok(true) => Ok(()),
+            _ => Err(FilesFault::Device),
+        }
+    }
+
     /// A time that can't be set, or wasn't told, is that of the storing.
     fn date(&mut self, number: u64) {
         if let Some(Some(piece)) = self.pieces.get(&number).copied() {
@@ -268,6 +282,7 @@ impl<R: Files + Clock + Drop> Journal<Outside> for FolderJournal<R> {
     fn empty(&mut self) -> Result<(), FilesFault> {
         self.log.remove()?;
         self.pieces = BTreeMap::new(self.alloc);
+        self.full_at = FULL;
         Ok(())
     }
 }

@@ -17,6 +17,10 @@ pub trait Journal<W: World>: Drop {
     /// Whether it has so much that it is to be emptied.
     fn is_full(&self) -> bool;
 
+    /// It could not be emptied, and is full again once as much more was noted.
+    fn put_off(&mut self)
+        ensures { W.honest → changes self.new ≡ changes self.old };
+
     /// The file of that number: its bytes, or that it was removed; None where nothing is said of it.
     fn read(&mut self, alloc: Global, number: u64) -> Result<Option<Option<Vec<u8>>>, FilesFault>
         ensures found { W.honest → IfOk result (λ o. change_of o ≡ changes self.old number) }
@@ -56,6 +60,12 @@ pub trait Journal<W: World>: Drop {
     /// Waits until a loss of power would take nothing of the journal, as far as it is kept where it could. Its one
     /// error is the device's: then that isn't known, and nothing has changed.
     fn settle(&mut self) -> Result<(), FilesFault>
+        ensures unchanged { W.honest → changes self.new ≡ changes self.old }
+        ensures fault { IfErr result (λ f. f ≡ Device) };
+
+    /// Waits until a loss of power would take no name of the folder in which it lies, as far as it lies in one,
+    /// whatever failed before. Its one error is the device's.
+    fn settle_names(&mut self) -> Result<(), FilesFault>
         ensures unchanged { W.honest → changes self.new ≡ changes self.old }
         ensures fault { IfErr result (λ f. f ≡ Device) };
 

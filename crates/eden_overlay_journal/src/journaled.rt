@@ -32,7 +32,8 @@ impl<F, J> Model for Journaled<F, J> {
 }
 
 impl<F, J> Journaled<F, J> {
-    /// The files, which have no state, with that journal over them. Nothing has failed yet.
+    /// The files with that journal over them. Nothing has failed yet. Changes are noted as where no state is stored:
+    /// whoever doesn't know whether one is asks `taken_in`.
     pub fn new(files: F, journal: J) -> Self
         ensures { result ≡ record { files = files; journal = journal; failures = 0 } }
     {
@@ -122,7 +123,7 @@ impl<W: World, F: Files<W>, J: Journal<W>> Files<W> for Journaled<F, J> {
 
     fn remove(&mut self, number: u64) -> Result<(), FilesFault> {
         let (files, journal) = (&mut self.files, &mut self.journal);
-        let answer = remove::<W, _, _>(files, journal, self.standing.is_closed, number);
+        let answer = remove::<W, _, _>(files, journal, self.standing, number);
         if number == STATE_NUMBER && answer.is_ok() {
             self.standing.is_closed = false;
         }
@@ -140,7 +141,7 @@ impl<W: World, F: Files<W>, J: Journal<W>> Files<W> for Journaled<F, J> {
 
     fn list(&mut self, alloc: Global) -> Result<Vec<u64>, FilesFault> {
         let (files, journal) = (&mut self.files, &mut self.journal);
-        let answer = list::<W, _, _>(alloc, files, journal, self.standing.is_promised);
+        let answer = list::<W, _, _>(alloc, files, journal, self.standing);
         self.failures = count(self.failures, &answer);
         answer
     }

@@ -1,4 +1,4 @@
-ghost use Rattle.std.specs.Prelude.{◌≡◌, Some, IfOk, IfErr, OnOk, OnErr, IsOk};
+ghost use Rattle.std.specs.Prelude.{◌≡◌, ◌≢◌, true, false, None, Some, Ok, IfOk, IfErr, OnOk, OnErr, IsOk};
 ghost use Rattle.eden_overlay.specs.declared.files.FilesFault.TheVariants as fault;
 ghost use Rattle.eden_overlay_journal.specs.Changes.{IsHeadIn, ListsChanges, change_of, changes_in, noted, unchanged};
 ghost use Rattle.std.specs.Option.{option_copied};
@@ -42,6 +42,8 @@ impl<W: World> Journal<W> for MemoryJournal<W> {
         false
     }
 
+    fn put_off(&mut self) {}
+
     fn read(&mut self, alloc: Global, number: u64) -> Result<Option<Option<Vec<u8>>>, FilesFault>
         ensures found { IfOk result (λ o. change_of o ≡ changes_in self.old.files number) }
         ensures unchanged { changes_in self.new.files ≡ changes_in self.old.files }
@@ -50,7 +52,11 @@ impl<W: World> Journal<W> for MemoryJournal<W> {
         Ok(copied(alloc, self.files.get(&number))?)
     }
 
-    fn head(&mut self, number: u64) -> Result<Option<Option<Head>>, FilesFault> {
+    fn head(&mut self, number: u64) -> Result<Option<Option<Head>>, FilesFault>
+        ensures found { IfOk result (IsHeadIn (changes_in self.old.files number)) }
+        ensures unchanged { changes_in self.new.files ≡ changes_in self.old.files }
+        ensures done { IsOk result }
+    {
         Ok(head_in(self.files.get(&number)))
     }
 
@@ -65,19 +71,35 @@ impl<W: World> Journal<W> for MemoryJournal<W> {
         Ok(())
     }
 
-    fn remove(&mut self, number: u64) -> Result<bool, FilesFault> {
+    fn remove(&mut self, number: u64) -> Result<bool, FilesFault>
+        ensures noted { result ≡ Ok true
+            → changes_in self.new.files ≡ noted (changes_in self.old.files) number (Some None) }
+        ensures no_room { result ≡ Ok false → changes_in self.old.files number ≡ None }
+        ensures same { result ≢ Ok true → changes_in self.new.files ≡ changes_in self.old.files }
+        ensures done { IsOk result }
+    {
         match self.files.insert(number, None) {
             Ok(_) => Ok(true),
             Err(_) => Ok(false),
         }
     }
 
-    fn pass(&mut self, number: u64) -> Result<(), FilesFault> {
+    fn pass(&mut self, number: u64) -> Result<(), FilesFault>
+        ensures ok { changes_in self.new.files ≡ noted (changes_in self.old.files) number None }
+        ensures done { IsOk result }
+    {
         self.files.remove(&number);
         Ok(())
     }
 
     fn settle(&mut self) -> Result<(), FilesFault>
+        ensures unchanged { changes_in self.new.files ≡ changes_in self.old.files }
+        ensures done { IsOk result }
+    {
+        Ok(())
+    }
+
+    fn settle_names(&mut self) -> Result<(), FilesFault>
         ensures unchanged { changes_in self.new.files ≡ changes_in self.old.files }
         ensures done { IsOk result }
     {

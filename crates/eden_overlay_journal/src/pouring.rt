@@ -44,13 +44,23 @@ fn store_one<W: World, F: Files<W>, J: Journal<W>>(
     Ok(())
 }
 
-// Does to the files all that the journal says, and empties it; where somebody was promised that the disk has it, once
-// it has the files.
+/// What a loss of power may not take before a journal goes of which all lies in the files.
+#[derive(Clone, Copy)]
+pub(crate) enum Wait {
+    /// Nobody was promised anything.
+    Nothing,
+    /// What is stored now. The files were asked before for all that is stored, so that each waits for its bytes.
+    Poured,
+    /// All files.
+    Everything,
+}
+
+// Does to the files all that the journal says, and empties it, once the disk has what is to be waited for.
 pub(crate) fn pour<W: World, F: Files<W>, J: Journal<W>>(
     alloc: Global,
     files: &mut F,
     journal: &mut J,
-    is_promised: bool,
+    wait: Wait,
 ) -> Result<(), FilesFault>
     ensures same { W.honest → changed (J.changes journal.new) (F.stored files.new)
         ≡ changed (J.changes journal.old) (F.stored files.old) }
@@ -61,24 +71,46 @@ pub(crate) fn pour<W: World, F: Files<W>, J: Journal<W>>(
     // fails, no later write is better off without the earlier ones.
     let _ = journal.settle();
     pour_all::<W, _, _>(alloc, files, journal, &numbers)?;
-    empty_poured::<W, _, _>(alloc, files, journal, is_promised && !numbers.is_empty())
+    empty_poured::<W, _, _>(alloc, files, journal, wait, &numbers)
 }
 
-// Empties the journal, of which all lies in the files, once the disk has them where that is to be waited for.
+// Empties the journal, of which all lies in the files of these numbers.
 fn empty_poured<W: World, F: Files<W>, J: Journal<W>>(
     alloc: Global,
     files: &mut F,
     journal: &mut J,
-    waits: bool,
+    wait: Wait,
+    numbers: &[u64],
 ) -> Result<(), FilesFault>
     ensures files { W.honest → F.stored files.new ≡ F.stored files.old }
     ensures ok { W.honest → OnOk result (J.changes journal.new ≡ unchanged) }
     ensures err { W.honest → OnErr result (J.changes journal.new ≡ J.changes journal.old) }
 {
-    if waits {
-        files.sync(alloc)?;
+    if !numbers.is_empty() {
+        wait_poured::<W, _, _>(alloc, files, journal, wait)?;
     }
     journal.empty()
+}
+
+// Waits until the disk has what is to be waited for. Files that once lost something tell it for good; but that isn't
+// what was stored just now: of this each has its bytes, and then the names are enough.
+fn wait_poured<W: World, F: Files<W>, J: Journal<W>>(
+    alloc: Global,
+    files: &mut F,
+    journal: &mut J,
+    wait: Wait,
+) -> Result<(), FilesFault>
+    ensures files { W.honest → F.stored files.new ≡ F.stored files.old }
+    ensures journal { W.honest → J.changes journal.new ≡ J.changes journal.old }
+{
+    match wait {
+        Wait::Nothing => Ok(()),
+        Wait::Poured => match files.sync(alloc) {
+            Err(FilesFault::Device) => journal.settle_names(),
+            answer => answer,
+        },
+        Wait::Everything => files.sync(alloc),
+    }
 }
 
 // Does to the files of these numbers what the journal says of them.
@@ -105,6 +137,7 @@ pub(crate) const STATE_NUMBER: u64 = 0;
 
 // Does to the files what a journal says that was left, and empties it. Where the state is stored the journal is from
 // before that, since it was emptied then: a program that knows of no journals passed it over. Answers whether it is.
+// After an error the journal still says over the files what it said, so that it can be done again.
 pub(crate) fn take_in<W: World, F: Files<W>, J: Journal<W>>(
     alloc: Global,
     files: &mut F,
@@ -113,6 +146,8 @@ pub(crate) fn take_in<W: World, F: Files<W>, J: Journal<W>>(
     ensures said { W.honest → OnOk result (J.changes journal.new ≡ unchanged) }
     ensures stored { W.honest → OnOk result (F.stored files.new
         ≡ at_opening (J.changes journal.old) (F.stored files.old)) }
+    ensures kept { W.honest → OnErr result (changed (J.changes journal.new) (F.stored files.new)
+        ≡ changed (J.changes journal.old) (F.stored files.old)) }
 {
     match files.head(STATE_NUMBER)? {
         Some(_) => {
@@ -121,7 +156,7 @@ pub(crate) fn take_in<W: World, F: Files<W>, J: Journal<W>>(
         }
         None => {
             // The run that left the journal may have promised what it says.
-            pour::<W, _, _>(alloc, files, journal, true)?;
+            pour::<W, _, _>(alloc, files, journal, Wait::Everything)?;
             Ok(false)
         }
     }

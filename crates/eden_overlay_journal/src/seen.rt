@@ -8,7 +8,7 @@ ghost use Rattle.eden_overlay.specs.declared.files.FilesFault.TheVariants as fau
 ghost use Rattle.eden_overlay_journal.specs.Changes.{changed};
 
 use crate::journal::Journal;
-use crate::pouring::{STATE_NUMBER, pour};
+use crate::pouring::{STATE_NUMBER, Wait, pour};
 use eden_model::World;
 use eden_overlay::{Files, FilesFault, part_of};
 use eden_overlay_format::Head;
@@ -24,6 +24,17 @@ pub(crate) struct Standing {
     pub(crate) is_closed: bool,
     /// Whether somebody was told that a loss of power takes nothing of what was stored.
     pub(crate) is_promised: bool,
+}
+
+impl Standing {
+    // What is waited for before the journal goes.
+    fn wait(self) -> Wait {
+        if self.is_promised {
+            Wait::Poured
+        } else {
+            Wait::Nothing
+        }
+    }
 }
 
 pub(crate) fn read<W: World, F: Files<W>, J: Journal<W>>(
@@ -83,7 +94,8 @@ pub(crate) fn read_part<W: World, F: Files<W>, J: Journal<W>>(
     }
 }
 
-// Empties the journal before the state is stored, and where it is full.
+// Empties the journal before the state is stored, and where it is full. Only the first is an error where it fails: a
+// full journal still has room.
 fn make_room<W: World, F: Files<W>, J: Journal<W>>(
     alloc: Global,
     files: &mut F,
@@ -93,10 +105,29 @@ fn make_room<W: World, F: Files<W>, J: Journal<W>>(
     ensures { W.honest → changed (J.changes journal.new) (F.stored files.new)
         ≡ changed (J.changes journal.old) (F.stored files.old) }
 {
-    if standing.is_closed || journal.is_full() {
-        return pour::<W, _, _>(alloc, files, journal, standing.is_promised);
+    if standing.is_closed {
+        return pour::<W, _, _>(alloc, files, journal, standing.wait());
+    }
+    if journal.is_full() {
+        pour_full::<W, _, _>(alloc, files, journal, standing);
     }
     Ok(())
+}
+
+// Empties the full journal. Where that fails it goes on as it is: a change that it can note isn't refused for that,
+// and not each change is to try again.
+fn pour_full<W: World, F: Files<W>, J: Journal<W>>(
+    alloc: Global,
+    files: &mut F,
+    journal: &mut J,
+    standing: Standing,
+)
+    ensures { W.honest → changed (J.changes journal.new) (F.stored files.new)
+        ≡ changed (J.changes journal.old) (F.stored files.old) }
+{
+    if pour::<W, _, _>(alloc, files, journal, standing.wait()).is_err() {
+        journal.put_off();
+    }
 }
 
 // Nothing is noted where the state is stored, or is to be.
@@ -227,7 +258,7 @@ fn put_poured<W: World, F: Files<W>, J: Journal<W>>(
     ensures err { W.honest → OnErr result (changed (J.changes journal.new) (F.stored files.new)
         ≡ changed (J.changes journal.old) (F.stored files.old)) }
 {
-    pour::<W, _, _>(alloc, files, journal, standing.is_promised)?;
+    pour::<W, _, _>(alloc, files, journal, standing.wait())?;
     put_past::<W, _, _>(alloc, files, journal, standing, number, bytes)
 }
 
@@ -251,9 +282,9 @@ fn put_past<W: World, F: Files<W>, J: Journal<W>>(
     journal.pass(number)
 }
 
-// Once something was promised, the disk has what the journal says before a file that goes past it can be there: that
-// may be a directory's, which names what only the journal knows. Where the disk fails, the journal tells it to whoever
-// waits for it next.
+// Once something was promised, the disk has what the journal says before a file that goes past it can be there, or be
+// gone: that may be a directory's, which names what only the journal knows, or one that only the journal knows to be
+// named no more. Where the disk fails, the journal tells it to whoever waits for it next.
 fn settle_first<W: World, J: Journal<W>>(journal: &mut J, standing: Standing)
     ensures { W.honest → J.changes journal.new ≡ J.changes journal.old }
 {
@@ -276,7 +307,7 @@ fn wait_past<W: World, F: Files<W>>(alloc: Global, files: &mut F, standing: Stan
 pub(crate) fn remove<W: World, F: Files<W>, J: Journal<W>>(
     files: &mut F,
     journal: &mut J,
-    is_closed: bool,
+    standing: Standing,
     number: u64,
 ) -> Result<(), FilesFault>
     ensures ok { W.honest → OnOk result (changed (J.changes journal.new) (F.stored files.new)
@@ -285,19 +316,36 @@ pub(crate) fn remove<W: World, F: Files<W>, J: Journal<W>>(
         ≡ changed (J.changes journal.old) (F.stored files.old)) }
     ensures fault { IfErr result (λ f. f ≡ fault.Device) }
 {
-    if is_closed || number == STATE_NUMBER {
-        return remove_past::<W, _, _>(files, journal, number);
+    if standing.is_closed || number == STATE_NUMBER {
+        return remove_past::<W, _, _>(files, journal, standing, number);
     }
     match journal.remove(number)? {
         true => Ok(()),
-        false => files.remove(number),
+        false => remove_unnoted::<W, _, _>(files, journal, standing, number),
     }
+}
+
+// Removes the file, of which the journal says nothing.
+fn remove_unnoted<W: World, F: Files<W>, J: Journal<W>>(
+    files: &mut F,
+    journal: &mut J,
+    standing: Standing,
+    number: u64,
+) -> Result<(), FilesFault>
+    ensures journal { W.honest → J.changes journal.new ≡ J.changes journal.old }
+    ensures ok { W.honest → OnOk result (F.stored files.new ≡ put (F.stored files.old) number None) }
+    ensures err { W.honest → OnErr result (F.stored files.new ≡ F.stored files.old) }
+    ensures fault { IfErr result (λ f. f ≡ fault.Device) }
+{
+    settle_first::<W, _>(journal, standing);
+    files.remove(number)
 }
 
 // Removes the file past the journal, which says nothing of it any more.
 fn remove_past<W: World, F: Files<W>, J: Journal<W>>(
     files: &mut F,
     journal: &mut J,
+    standing: Standing,
     number: u64,
 ) -> Result<(), FilesFault>
     ensures ok { W.honest → OnOk result (changed (J.changes journal.new) (F.stored files.new)
@@ -306,6 +354,7 @@ fn remove_past<W: World, F: Files<W>, J: Journal<W>>(
         ≡ changed (J.changes journal.old) (F.stored files.old)) }
     ensures fault { IfErr result (λ f. f ≡ fault.Device) }
 {
+    settle_first::<W, _>(journal, standing);
     files.remove(number)?;
     journal.pass(number)
 }
@@ -328,7 +377,7 @@ pub(crate) fn list<W: World, F: Files<W>, J: Journal<W>>(
     alloc: Global,
     files: &mut F,
     journal: &mut J,
-    is_promised: bool,
+    standing: Standing,
 ) -> Result<Vec<u64>, FilesFault>
     ensures rising { IfOk result (λ v. IsStrictlySortedBy nat_cmp v.items) }
     ensures all { W.honest → IfOk result (λ v.
@@ -336,6 +385,6 @@ pub(crate) fn list<W: World, F: Files<W>, J: Journal<W>>(
     ensures unchanged { W.honest → changed (J.changes journal.new) (F.stored files.new)
         ≡ changed (J.changes journal.old) (F.stored files.old) }
 {
-    pour::<W, _, _>(alloc, files, journal, is_promised)?;
+    pour::<W, _, _>(alloc, files, journal, standing.wait())?;
     files.list(alloc)
 }
