@@ -156,15 +156,19 @@ def check_git(folder: pathlib.Path, repository: pathlib.Path) -> None:
         check("git: the end, with nothing said", (mount.end("SIGTERM"), mount.said()), (0, []))
 
 
-# Ends in a transaction that isn't committed, and leaves its journal.
+# Ends in a transaction that isn't committed, and leaves its journal, which is of the kind that is named: but for `wal`
+# the file doesn't say which.
 DIES = """
 import os, sqlite3, sys
 base = sqlite3.connect(sys.argv[1])
+base.execute("PRAGMA journal_mode = " + sys.argv[2])
 base.execute("PRAGMA cache_size = 2")
 base.execute("BEGIN")
 base.executemany("INSERT INTO rows VALUES (?, ?)", [(-number, "never" * 50) for number in range(1, 100)])
-os._exit(7)
+os._exit(7 if base.execute("PRAGMA journal_mode").fetchone()[0] == sys.argv[2] else 1)
 """
+# What is behind the name of a file in which something has to be taken back, and with what that begins.
+LEFT = {"-journal": bytes.fromhex("d9d505f920a163d7"), "-wal": bytes.fromhex("377f06")}
 
 
 def check_sqlite(folder: pathlib.Path, repository: pathlib.Path) -> None:
@@ -189,10 +193,19 @@ def kept_in(path: pathlib.Path, journal: str) -> tuple[str, int, str]:
         with contextlib.suppress(ZeroDivisionError), base:
             base.execute("DELETE FROM rows")
             raise ZeroDivisionError
-    subprocess.run([sys.executable, "-c", DIES, path], timeout=PATIENCE)
+    died = finished([sys.executable, "-c", DIES, path, journal])
+    check(f"sqlite: a program dies with journal {journal}", (died.returncode, left_by(path)),
+          (7, ["-wal" if journal == "wal" else "-journal"]))
     with contextlib.closing(sqlite3.connect(path)) as base:
+        base.execute(f"PRAGMA journal_mode = {journal}")
         count = base.execute("SELECT count(*) FROM rows").fetchone()[0]
         return has, count, base.execute("PRAGMA integrity_check").fetchone()[0]
+
+
+def left_by(path: pathlib.Path) -> list[str]:
+    """By which files beside it something has to be taken back."""
+    beside = {end: path.with_name(path.name + end) for end in LEFT}
+    return [end for end, head in LEFT.items() if beside[end].exists() and beside[end].read_bytes().startswith(head)]
 
 
 # ---- kills
