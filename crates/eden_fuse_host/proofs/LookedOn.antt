@@ -19,7 +19,7 @@ use Rattle.eden_fuse_session.specs.declared.serving.SessionFault.{SessionFault}
 use Rattle.eden_fuse_session.specs.declared.turning.Turned.{Turned}
 use Rattle.eden_fuse_session.specs.Turns.{Does, Line}
 use Rattle.eden_fuse_session.specs.Turns.{Told as Answer}
-use Rattle.eden_fuse_session.specs.Sessions.{Serves, Serving, Session}
+use Rattle.eden_fuse_session.specs.Sessions.{Serves, Serving, Session, answer_room}
 use Rattle.eden_fuse_shown.specs.Looking.{ChangesNothing}
 use Rattle.eden_fuse_host.specs.Hands.{HandAnswers, IsAttended, taken_by}
 use Rattle.eden_fuse_host.specs.Passing.{HasLooked}
@@ -68,8 +68,8 @@ module _ (Turns : Header → Asked → Answer → Type 0) where
   -- looks alone were made for messages
   pub looked_through : (ms : List (List ℕ)) (s t : Serving Carried) → Serves (HandAnswers Turns) ms s t → HasLooked s.0 t.0
   looked_through [] s t same = looked_same s.0 t.0 (ap (λ (x : Serving Carried). x.0) (sym same))
-  looked_through (m ∷ ms) s t (u, room, r, (is, reads, does), rest) =
-      looked_on s.0 u.0 t.0 (looked_for is s.0 u.0 s.1 u.1 room r does) (looked_through ms u t rest)
+  looked_through (m ∷ ms) s t (u, r, (is, reads, does), rest) =
+      looked_on s.0 u.0 t.0 (looked_for is s.0 u.0 s.1 u.1 answer_room r does) (looked_through ms u t rest)
 
 -- a thread's session
 module _ {V O : Type 0} (v : Receiver V) (o : Sender O) (Turns : Header → Asked → Answer → Type 0) where

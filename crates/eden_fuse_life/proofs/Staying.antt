@@ -23,7 +23,7 @@ use Rattle.eden_fuse_meaning.specs.Steps.{next}
 use Rattle.eden_fuse_meaning.specs.Hiding.{hide, put_back, list_hidden, is_hidden}
 use Rattle.eden_fuse_session.specs.declared.turning.Turned.{Turned}
 use Rattle.eden_fuse_session.specs.Turns.{Told, Line, Does}
-use Rattle.eden_fuse_session.specs.Sessions.{Serving, Serves}
+use Rattle.eden_fuse_session.specs.Sessions.{Serving, Serves, answer_room}
 use Rattle.eden_fuse_shown.specs.declared.mount.Unheard.{Unheard}
 use Rattle.eden_fuse_shown.specs.declared.mount.Unheard.TheVariants as unheard
 use Rattle.eden_fuse_shown.specs.Running.{Hears, Leads}
@@ -253,8 +253,8 @@ module _ {S : Type 0} (fetched : S → Id → Answer → S → Type 0) {T : Type
   serves_keep : (messages : List (List ℕ)) (s t : Serving (Showing (Desk T S))) → Serves (Shows (CallAnswers fetched A honest copies) (SyncsDesk A honest)) messages s t
       → Stays A s.0.mount.core t.0.mount.core
   serves_keep [] s t is = folder_same s.0 t.0 (ap (λ (x : Serving Folder). x.0) (sym is))
-  serves_keep (m ∷ ms) s t (u, room, r, turn, rest) =
-      kept_on s.0.mount u.0.mount t.0.mount (does_keep turn.0 s.0 u.0 s.1 u.1 room r turn.2) (serves_keep ms u t rest)
+  serves_keep (m ∷ ms) s t (u, r, turn, rest) =
+      kept_on s.0.mount u.0.mount t.0.mount (does_keep turn.0 s.0 u.0 s.1 u.1 answer_room r turn.2) (serves_keep ms u t rest)
 
   -- .. and all that waited was stored
   pub serves_and_stores_keep : (messages : List (List ℕ)) (s t : Serving (Showing (Desk T S))) (h : Desk T S)
