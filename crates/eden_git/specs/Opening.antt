@@ -1,4 +1,4 @@
--- Why a repository isn't opened.
+-- Why a repository, or a file of it, isn't opened.
 use Rattle.eden_plain_files.specs.declared.fault.FolderFault.{FolderFault}
 use Rattle.eden_plain_files.specs.declared.fault.FolderFault.TheVariants as folder
 use Rattle.eden_git.specs.declared.fault.GitFault.{GitFault}
@@ -11,3 +11,11 @@ fault_of folder.NotPlain = fault.Device
 fault_of folder.TooLong = fault.Device
 fault_of folder.Device = fault.Device
 fault_of folder.Memory = fault.Memory
+
+-- a file is there and can't be opened, and it isn't for want of memory
+abbrev pub IsDamage : FolderFault → Type 0
+IsDamage folder.Missing = ⊥
+IsDamage folder.NotPlain = Unit {0}
+IsDamage folder.TooLong = Unit {0}
+IsDamage folder.Device = Unit {0}
+IsDamage folder.Memory = ⊥

@@ -10,7 +10,7 @@ use crate::fault::GitFault;
 use crate::framing::frame;
 use crate::pack::Tools;
 use crate::repository::objects_directory;
-use crate::store::{Store, framed_in, look_at_all, open_stores};
+use crate::store::{Store, find, open_stores};
 use eden_inflate::Decoder;
 use eden_model::{Cause, Id, Outside};
 use eden_object::Word;
@@ -31,7 +31,9 @@ const EMPTY_TREE: Id = Id {
 /// The objects of a Git repository: packed ones, loose ones, and those of the directories that it names as alternates.
 ///
 /// If an object is in none of the packs that were seen and isn't loose, the directories of packs are listed again,
-/// since Git packs objects while others read. The empty tree is answered even where it is stored nowhere.
+/// since Git packs objects while others read. So they are if something that might have it can't be read, and each pack
+/// that couldn't be opened is tried again then. As long as one can't, an object that is found nowhere is `Device` and
+/// not `Missing`. The empty tree is answered even where it is stored nowhere.
 ///
 /// Contracts see the repository's path and the count of failures.
 #[derive(Drop)]
@@ -102,16 +104,13 @@ impl<R: Files + Alloc + Clone + Drop> GitSource<R> {
         ensures bounded { IfOk result (λ v. length v.items ≤ longest_framed) }
         ensures causes { IfErr result IsSourceCause }
     {
-        let answer = framed_in(&mut self.stores, &mut self.tools, id);
-        if answer != Err(Cause::Missing) {
-            return answer;
-        }
-        let alloc = self.tools.alloc;
-        if look_at_all(&self.files, alloc, &mut self.stores, &mut self.packs)? {
-            framed_in(&mut self.stores, &mut self.tools, id)
-        } else {
-            Err(Cause::Missing)
-        }
+        find(
+            &self.files,
+            &mut self.stores,
+            &mut self.tools,
+            id,
+            &mut self.packs,
+        )
     }
 }
 

@@ -1,5 +1,5 @@
 // Which packs lie in a directory of packs, and opening them.
-ghost use Rattle.std.specs.Prelude.{◌≡◌, ◌≤◌, IfOk, IfErr};
+ghost use Rattle.std.specs.Prelude.{◌≡◌, true, false, Ok, IfErr};
 ghost use Rattle.eden_pack_format.specs.Causes.{IsReadingCause};
 
 use crate::index::Index;
@@ -12,7 +12,7 @@ use eden_pack_format::split_name;
 use eden_plain_files::{FolderFault, entry_in};
 use std::alloc::{Alloc, AllocError, Allocator, Global};
 use std::fs::{self, DirEntry};
-use std::io::{self, ErrorKind};
+use std::io::{self, ErrorKind, Read, Seek};
 use std::path::PathBuf;
 use std::rt::Files;
 use std::str;
@@ -20,37 +20,72 @@ use std::str;
 /// The name of a multi-pack index.
 const MULTI: &str = "multi-pack-index";
 
-/// Looks at the directory again: where other files are in it than were seen, all are opened anew. Whether there are.
+/// Looks at the directory again. Where other files are in it than were seen, all are opened anew; else those that
+/// aren't open are tried again. Whether more is known than before.
 pub(crate) fn look_again<R: Files + Alloc + Clone + Drop>(
     files: &R,
     alloc: Global,
     packs: &mut Packs<R::File>,
     numbers: &mut u64,
 ) -> Result<bool, Cause>
+    ensures kept { result ≡ Ok false → packs.new.is_damaged ≡ packs.old.is_damaged }
     ensures causes { IfErr result IsReadingCause }
 {
+    let was_damaged = packs.is_damaged;
     let names = file_names(files, alloc, &packs.folder)?;
-    if names == packs.seen {
-        return Ok(false);
+    let is_other = names != packs.seen;
+    if is_other {
+        packs.see(alloc, names)?;
     }
+    let before = packs.open.len();
     packs.is_damaged = false;
-    packs.multi = None;
-    packs.open = Vec::new(alloc);
-    let mut opened = Vec::new(alloc);
-    for name in &names {
-        let pack = match name.strip_suffix(".idx") {
-            Some(stem) => add_pack(files, alloc, packs, stem, true, numbers)?,
-            None => None,
-        };
-        opened.push(pack)?;
+    open_by_indexes(files, alloc, packs, numbers)?;
+    if packs.multi.is_none() || was_damaged || packs.open.len() != before {
+        add_multi(files, alloc, packs, numbers)?;
     }
-    let listed = Listed {
-        names: &names,
-        opened: &opened,
+    let has_more = packs.open.len() != before;
+    Ok(is_other || has_more || packs.is_damaged != was_damaged)
+}
+
+// Opens the packs that have an index of their own and aren't open.
+fn open_by_indexes<R: Files + Drop>(
+    files: &R,
+    alloc: Global,
+    packs: &mut Packs<R::File>,
+    numbers: &mut u64,
+) -> Result<(), Cause>
+    ensures causes { IfErr result IsReadingCause }
+{
+    for name in 0..packs.seen.len() {
+        if packs.opened_by(name).is_none() {
+            open_by_index(files, alloc, packs, name, numbers)?;
+        }
+    }
+    Ok(())
+}
+
+// Opens the pack whose own index has the name of that number, if it is one's name.
+fn open_by_index<R: Files + Drop>(
+    files: &R,
+    alloc: Global,
+    packs: &mut Packs<R::File>,
+    name: usize,
+    numbers: &mut u64,
+) -> Result<(), Cause>
+    ensures kept { packs.old.is_damaged ≡ true → packs.new.is_damaged ≡ true }
+    ensures causes { IfErr result IsReadingCause }
+{
+    let Some(stem) = packs.seen.get(name).and_then(stem_of) else {
+        return Ok(());
     };
-    add_multi(files, alloc, packs, &listed, numbers)?;
-    packs.seen = names;
-    Ok(true)
+    *numbers = numbers.saturating_add(1);
+    let opened = open_pack(files, alloc, &packs.folder, stem, true, *numbers);
+    packs.add(name, opened)
+}
+
+// What stands before the ending of an index's name.
+fn stem_of(name: &String) -> Option<&str> {
+    name.strip_suffix(".idx")
 }
 
 // The names of the packs' files in the directory, and of indexes, in order. The directory need not be there.
@@ -93,33 +128,6 @@ fn file_name<R: Files + Drop, A: Allocator>(
 
 fn is_of_packs(name: &str) -> bool {
     name.ends_with(".idx") || name.ends_with(".pack") || name == MULTI
-}
-
-// Opens the pack of that name and adds it to the open ones. Which of them it is then, unless it is gone by now or can't
-// be read.
-fn add_pack<R: Files + Drop>(
-    files: &R,
-    alloc: Global,
-    packs: &mut Packs<R::File>,
-    stem: &str,
-    has_index: bool,
-    numbers: &mut u64,
-) -> Result<Option<usize>, Cause>
-    ensures causes { IfErr result IsReadingCause }
-{
-    *numbers = numbers.saturating_add(1);
-    match open_pack(files, alloc, &packs.folder, stem, has_index, *numbers) {
-        Ok(pack) => {
-            packs.open.push(pack)?;
-            Ok(packs.open.len().checked_sub(1))
-        }
-        Err(FolderFault::Missing) => Ok(None),
-        Err(FolderFault::Memory) => Err(Cause::Memory),
-        Err(_) => {
-            packs.is_damaged = true;
-            Ok(None)
-        }
-    }
 }
 
 // The pack of that name, with its own index or without one. `Missing`, where one of the two is gone by now.
@@ -165,16 +173,16 @@ fn add_multi<R: Files + Drop>(
     files: &R,
     alloc: Global,
     packs: &mut Packs<R::File>,
-    listed: &Listed<'_>,
     numbers: &mut u64,
 ) -> Result<(), Cause>
+    ensures kept { packs.old.is_damaged ≡ true → packs.new.is_damaged ≡ true }
     ensures causes { IfErr result IsReadingCause }
 {
-    match open_multi(files, alloc, packs, listed, numbers) {
-        Ok(multi) => packs.multi = Some(multi),
+    match open_multi(files, alloc, packs, numbers) {
+        Ok(multi) => packs.put_multi(multi),
         Err(FolderFault::Missing) => {}
         Err(FolderFault::Memory) => return Err(Cause::Memory),
-        Err(_) if listed.has_lone_pack(alloc)? => packs.is_damaged = true,
+        Err(_) if has_lone_pack(alloc, packs)? => packs.is_damaged = true,
         Err(_) => {}
     }
     Ok(())
@@ -184,9 +192,10 @@ fn open_multi<R: Files + Drop>(
     files: &R,
     alloc: Global,
     packs: &mut Packs<R::File>,
-    listed: &Listed<'_>,
     numbers: &mut u64,
-) -> Result<Multi<R::File>, FolderFault> {
+) -> Result<Multi<R::File>, FolderFault>
+    ensures kept { packs.old.is_damaged ≡ true → packs.new.is_damaged ≡ true }
+{
     let pieces = open_named(files, alloc, &packs.folder, MULTI, "")?;
     let mut index = MultiIndex::open(pieces).map_err(fault_of)?;
     let names = index.names(alloc).map_err(fault_of)?;
@@ -199,7 +208,7 @@ fn open_multi<R: Files + Drop>(
         if name <= last {
             return Err(FolderFault::Device);
         }
-        let pack = find_pack(files, alloc, packs, listed, name, numbers).map_err(fault_of)?;
+        let pack = find_pack(files, alloc, packs, name, numbers).map_err(fault_of)?;
         found.push(pack)?;
         last = name;
         rest = others;
@@ -210,15 +219,15 @@ fn open_multi<R: Files + Drop>(
     })
 }
 
-// Which of the open packs has that name for its own index. One that isn't open yet is opened without.
+// Which of the open packs has that name for its own index. One that isn't open is opened without.
 fn find_pack<R: Files + Drop>(
     files: &R,
     alloc: Global,
     packs: &mut Packs<R::File>,
-    listed: &Listed<'_>,
     name: &[u8],
     numbers: &mut u64,
 ) -> Result<Option<usize>, Cause>
+    ensures kept { packs.old.is_damaged ≡ true → packs.new.is_damaged ≡ true }
     ensures causes { IfErr result IsReadingCause }
 {
     let Ok(name) = str::from_utf8(name) else {
@@ -227,47 +236,61 @@ fn find_pack<R: Files + Drop>(
     let Some(stem) = name.strip_suffix(".idx") else {
         return Ok(None);
     };
-    let mut number = listed.opened_by(alloc, stem)?;
-    if number.is_none() && listed.has(alloc, stem, ".pack")? {
-        number = add_pack(files, alloc, packs, stem, false, numbers)?;
+    if let Some(number) = opened_by(alloc, packs, stem, ".idx")? {
+        return Ok(Some(number));
     }
-    packs.put_in_multi(number);
-    Ok(number)
+    if let Some(number) = opened_by(alloc, packs, stem, ".pack")? {
+        return Ok(Some(number));
+    }
+    open_without(files, alloc, packs, stem, numbers)
 }
 
-// The names in the directory, in order, and for each which of the open packs was opened by it.
-#[derive(Clone, Copy)]
-struct Listed<'a> {
-    names: &'a Vec<String>,
-    opened: &'a Vec<Option<usize>>,
+// Opens the pack of that name without an index of its own. Which of the open ones it is then, if it is one.
+fn open_without<R: Files + Drop>(
+    files: &R,
+    alloc: Global,
+    packs: &mut Packs<R::File>,
+    stem: &str,
+    numbers: &mut u64,
+) -> Result<Option<usize>, Cause>
+    ensures kept { packs.old.is_damaged ≡ true → packs.new.is_damaged ≡ true }
+    ensures causes { IfErr result IsReadingCause }
+{
+    let Some(name) = packs.name_of(&joined(alloc, stem, ".pack")?) else {
+        return Ok(None);
+    };
+    *numbers = numbers.saturating_add(1);
+    let opened = open_pack(files, alloc, &packs.folder, stem, false, *numbers);
+    packs.add(name, opened)?;
+    Ok(packs.opened_by(name))
 }
 
-impl Listed<'_> {
-    fn has(&self, alloc: Global, stem: &str, ending: &str) -> Result<bool, AllocError> {
-        let name = joined(alloc, stem, ending)?;
-        Ok(self.names.binary_search(&name).is_ok())
+// Which of the open packs was opened by that name.
+fn opened_by<F: Read + Seek + Drop>(
+    alloc: Global,
+    packs: &Packs<F>,
+    stem: &str,
+    ending: &str,
+) -> Result<Option<usize>, AllocError> {
+    match packs.name_of(&joined(alloc, stem, ending)?) {
+        Some(name) => Ok(packs.opened_by(name)),
+        None => Ok(None),
     }
+}
 
-    // Which of the open packs was opened by its own index.
-    fn opened_by(&self, alloc: Global, stem: &str) -> Result<Option<usize>, AllocError> {
-        let name = joined(alloc, stem, ".idx")?;
-        match self.names.binary_search(&name) {
-            Ok(at) => Ok(self.opened.get(at).copied().flatten()),
-            Err(_) => Ok(None),
-        }
-    }
-
-    // Whether a pack has no index of its own.
-    fn has_lone_pack(&self, alloc: Global) -> Result<bool, AllocError> {
-        for name in self.names {
-            if let Some(stem) = name.strip_suffix(".pack") {
-                if !self.has(alloc, stem, ".idx")? {
-                    return Ok(true);
-                }
+// Whether a pack has no index of its own.
+fn has_lone_pack<F: Read + Seek + Drop>(
+    alloc: Global,
+    packs: &Packs<F>,
+) -> Result<bool, AllocError> {
+    for name in &packs.seen {
+        if let Some(stem) = name.strip_suffix(".pack") {
+            if packs.name_of(&joined(alloc, stem, ".idx")?).is_none() {
+                return Ok(true);
             }
         }
-        Ok(false)
     }
+    Ok(false)
 }
 
 // Why a pack isn't opened.

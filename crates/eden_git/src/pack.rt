@@ -76,8 +76,8 @@ impl<F: Read + Seek + Drop> Pack<F> {
         self.is_in_multi
     }
 
-    pub(crate) fn put_in_multi(&mut self) {
-        self.is_in_multi = true;
+    pub(crate) fn set_in_multi(&mut self, is_in_multi: bool) {
+        self.is_in_multi = is_in_multi;
     }
 
     /// Where the object of that id begins, by the pack's own index, if it has one and the object is in there.

@@ -16,7 +16,8 @@ pub(crate) struct Pieces<F> {
     len: u64,
 }
 
-/// Opens the plain file at the path. What is none is looked at and not opened.
+/// Opens the plain file at the path. What is none is looked at and not opened. It is opened for reading alone, since
+/// Git lets nobody write to its packs, so a pipe that comes after the look is waited for.
 ///
 /// `Missing`, where nothing has that name; `NotPlain`, `Device` and `Memory`.
 pub(crate) fn open_pieces<R: Files>(files: &R, path: &str) -> Result<Pieces<R::File>, FolderFault> {
@@ -25,7 +26,11 @@ pub(crate) fn open_pieces<R: Files>(files: &R, path: &str) -> Result<Pieces<R::F
         return Err(FolderFault::NotPlain);
     }
     let file = File::open(files, path).map_err(not_found)?;
-    let len = file.metadata()?.len();
+    let opened = file.metadata()?;
+    if !opened.is_file() {
+        return Err(FolderFault::NotPlain);
+    }
+    let len = opened.len();
     Ok(Pieces { file, len })
 }
 
