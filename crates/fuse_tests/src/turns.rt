@@ -323,15 +323,24 @@ fn make_narrow(rt: &(impl AllocGlobal + Abort), room: usize, len: usize) -> Sess
 }
 
 impl Session {
-    // Whether a turn finds no memory for its answer. Then nothing is sent, and the next one answers; so does the first,
+    // Whether one message was sent, which is a refusal with ENOMEM.
+    fn has_refused(&self) -> bool {
+        let got = self.line.got.as_slice();
+        let refuses = got.starts_with(&[16, 0, 0, 0, 244, 255, 255, 255]);
+        refuses && got.len() == 16 && self.line.calls == 1 && self.service.asked == 1
+    }
+
+    // Whether a turn finds no memory for its answer. Then it is refused, and the next one answers; so does the first,
     // if the room was large enough.
     fn wants_memory(&mut self, rt: &impl Abort, message: &[u8], want: &[u8], room: usize) -> bool {
-        if self.turn(message) == Turned::Answered {
+        let turned = self.turn(message);
+        if turned == Turned::Answered {
             assert!(rt; self.is_at(1, 1, want));
             return false;
         }
-        assert!(rt; room < want.len() && self.is_at(0, 1, b""));
-        assert!(rt; self.turn(message) == Turned::Answered && self.is_at(1, 2, want));
+        assert!(rt; turned == Turned::NoMemory && room < want.len() && self.has_refused());
+        self.line.got.clear();
+        assert!(rt; self.turn(message) == Turned::Answered && self.is_at(2, 2, want));
         true
     }
 }

@@ -8,6 +8,8 @@ mod packed;
 #[cfg(test)]
 mod packs;
 #[cfg(test)]
+mod repacked;
+#[cfg(test)]
 mod repositories;
 #[cfg(test)]
 mod written;

@@ -12,16 +12,17 @@ use std::path::PathBuf;
 use std::process::Abort;
 use test_samples::{EMPTY_BLOB, EMPTY_TREE, empty_folder};
 
-const INDEX: &str = "objects/pack/pack-1.idx";
+pub(crate) const INDEX: &str = "objects/pack/pack-1.idx";
 
-const MULTI: &str = "objects/pack/multi-pack-index";
+pub(crate) const MULTI: &str = "objects/pack/multi-pack-index";
 
 fn put_files(rt: &(impl AllocGlobal + Abort + Files), folder: &PathBuf, pack: &[u8], index: &[u8]) {
     put(rt, folder, "objects/pack/pack-1.pack", pack);
     put(rt, folder, INDEX, index);
 }
 
-fn put_pack(rt: &(impl AllocGlobal + Abort + Files), folder: &PathBuf, packed: &Packed) {
+/// Puts the pack and its index into the repository in the folder.
+pub(crate) fn put_pack(rt: &(impl AllocGlobal + Abort + Files), folder: &PathBuf, packed: &Packed) {
     put_files(rt, folder, &packed.pack(rt), &packed.index(rt));
 }
 
@@ -37,7 +38,10 @@ fn try_to_open<'a, R: AllocGlobal + Abort + Files>(
     GitSource::open(rt.alloc(), rt, folder.clone()?)
 }
 
-fn open<'a, R: AllocGlobal + Abort + Files>(rt: &'a R, folder: &PathBuf) -> GitSource<&'a R> {
+pub(crate) fn open<'a, R: AllocGlobal + Abort + Files>(
+    rt: &'a R,
+    folder: &PathBuf,
+) -> GitSource<&'a R> {
     try_to_open(rt, folder).expect(rt, "a repository")
 }
 
@@ -61,7 +65,7 @@ fn check<S: Source<Outside>>(
 }
 
 /// Whether the source gives all objects of its pack.
-fn gives_each<S: Source<Outside>>(source: &mut S, alloc: Global) -> bool {
+pub(crate) fn gives_each<S: Source<Outside>>(source: &mut S, alloc: Global) -> bool {
     for id in IDS {
         if !gives(source, alloc, id) {
             return false;
