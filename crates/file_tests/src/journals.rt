@@ -4,8 +4,11 @@ use crate::kinds::{
     Answer, BEHAVIOUR, Call, SIXTY_FOUR, SIXTY_SIX, gives_all, gives_all_but_lists,
 };
 use eden_model::Outside;
-use eden_overlay::{Files, FilesFault, FolderFiles, MemoryFiles, StopFiles};
-use eden_overlay_journal::{FolderJournal, Journaled, LONGEST_RECORD, MemoryJournal, taken_in};
+use eden_overlay::{FailingFiles, Files, FilesFault, FolderFiles, MemoryFiles, StopFiles};
+use eden_overlay_format::Head;
+use eden_overlay_journal::{
+    FolderJournal, Journal, Journaled, LONGEST_RECORD, MemoryJournal, taken_in,
+};
 use std::alloc::{AllocError, Global};
 use std::cell::Cell;
 use std::io::{self, ErrorKind};
@@ -336,6 +339,168 @@ fn a_wait_that_fails_is_told(rt: HostRuntime) {
         );
         fs::remove_dir_all(&rt, folder.as_path()).expect(&rt, "a folder");
     }
+}
+
+// A close whose wait for all files fails, as it does for good once the disk lost something: where the disk takes the
+// names of what is stored, that is enough, and else it is told, and the journal stays.
+#[test]
+fn a_close_waits_for_what_it_stores(rt: HostRuntime) {
+    let alloc = rt.alloc();
+    for (of_journal, want) in [
+        (SystemCall::None, Ok(())),
+        (SystemCall::Sync, Err(FilesFault::Device)),
+    ] {
+        let folder = folder_of(&rt, "journal-lost", FIVE).expect(&rt, "a folder");
+        let journal = FolderJournal::open(failing(&rt, of_journal), alloc, &folder);
+        let journal = journal.expect(&rt, "a journal");
+        let path = folder.clone().expect(&rt, "memory");
+        // The calls of the files: a wait for the disk, two stores, and the wait that fails.
+        let mut files = Journaled::new(FailingFiles::new(FolderFiles::new(rt, path), 4), journal);
+        assert!(rt; Files::<Outside>::sync(&mut files, alloc) == Ok(()));
+        assert!(rt; Files::<Outside>::replace(&mut files, alloc, 7, b"7") == Ok(()));
+        assert!(rt; Files::<Outside>::replace(&mut files, alloc, 8, b"8") == Ok(()));
+        assert!(rt; Files::<Outside>::replace(&mut files, alloc, 0, b"state") == want);
+        assert!(rt; has(&rt, &folder, "0") == Some(want.is_ok()));
+        assert!(rt; has(&rt, &folder, "journal") == Some(want.is_err()));
+        drop(files);
+        let mut files = opened(&rt, &folder).expect(&rt, "files");
+        assert!(rt; gives_all(&mut files, alloc, STORED));
+        fs::remove_dir_all(&rt, folder.as_path()).expect(&rt, "a folder");
+    }
+}
+
+// What such a close has stored.
+const STORED: &[(Call, Answer)] = &[
+    (Call::Read(5), Answer::Bytes(Some(b"5"))),
+    (Call::Read(7), Answer::Bytes(Some(b"7"))),
+    (Call::Read(8), Answer::Bytes(Some(b"8"))),
+];
+
+// How many of the longest records fill a journal.
+const FILLING: u64 = 128;
+
+// Stores that many files of these bytes, under numbers from 1 on. Whether each was done.
+fn fills<F: Files<Outside>>(files: &mut F, alloc: Global, bytes: &[u8], count: u64) -> bool {
+    for number in 1..=count {
+        if files.replace(alloc, number, bytes) != Ok(()) {
+            return false;
+        }
+    }
+    true
+}
+
+// A disk that fails for good refuses no change that the full journal can note, and isn't asked at each of them.
+#[test]
+fn a_full_journal_that_stays_goes_on(rt: HostRuntime) {
+    let alloc = rt.alloc();
+    let folder = folder_of(&rt, "journal-full", &[]).expect(&rt, "a folder");
+    let journal = FolderJournal::open(failing(&rt, SystemCall::Sync), alloc, &folder);
+    let journal = journal.expect(&rt, "a journal");
+    let path = folder.clone().expect(&rt, "memory");
+    let allowed = Rc::new(alloc, Cell::new(1_000)).expect(&rt, "memory");
+    let counted = allowed.clone().expect(&rt, "memory");
+    let files = StopFiles::new(
+        FolderFiles::new(failing(&rt, SystemCall::Sync), path),
+        counted,
+    );
+    let mut files = Journaled::new(files, journal);
+    let longest = of_length(alloc, LONGEST_RECORD).expect(&rt, "memory");
+    assert!(rt; Files::<Outside>::sync(&mut files, alloc) == Err(FilesFault::Device));
+    assert!(rt; fills(&mut files, alloc, &longest, FILLING) && allowed.get() == 999);
+    // The next one tries to empty it, by a store that fails.
+    assert!(rt; fills(&mut files, alloc, &longest, 1) && allowed.get() == 998);
+    assert!(rt; fills(&mut files, alloc, &longest, FILLING - 1) && allowed.get() == 998);
+    assert!(rt; Files::<Outside>::failures(&files) == 1);
+    assert!(rt; has(&rt, &folder, "journal") == Some(true));
+    drop(files);
+    let mut files = opened(&rt, &folder).expect(&rt, "files");
+    let read = files.read(alloc, 5).expect(&rt, "an answer");
+    assert!(rt; read.expect(&rt, "a file") == longest);
+    fs::remove_dir_all(&rt, folder.as_path()).expect(&rt, "a folder");
+}
+
+// A journal without room for a removal, over files whose calls are counted: it notes how many were left when the disk
+// was waited for last.
+#[derive(Drop)]
+struct Roomless {
+    left: Rc<Cell<u64>>,
+    at_wait: Rc<Cell<u64>>,
+}
+
+impl Journal<Outside> for Roomless {
+    ghost use Rattle.std.specs.Prelude.{None};
+
+    ghost changes = { λ _ _. None };
+
+    fn is_full(&self) -> bool {
+        false
+    }
+
+    fn put_off(&mut self) {}
+
+    fn read(
+        &mut self,
+        _alloc: Global,
+        _number: u64,
+    ) -> Result<Option<Option<Vec<u8>>>, FilesFault> {
+        Ok(None)
+    }
+
+    fn head(&mut self, _number: u64) -> Result<Option<Option<Head>>, FilesFault> {
+        Ok(None)
+    }
+
+    fn store(&mut self, _alloc: Global, _number: u64, _bytes: &[u8]) -> Result<(), FilesFault> {
+        Err(FilesFault::Memory)
+    }
+
+    fn remove(&mut self, _number: u64) -> Result<bool, FilesFault> {
+        Ok(false)
+    }
+
+    fn pass(&mut self, _number: u64) -> Result<(), FilesFault> {
+        Ok(())
+    }
+
+    fn settle(&mut self) -> Result<(), FilesFault> {
+        self.at_wait.set(self.left.get());
+        Ok(())
+    }
+
+    fn settle_names(&mut self) -> Result<(), FilesFault> {
+        Ok(())
+    }
+
+    fn date(&mut self, _number: u64) {}
+
+    fn numbers(&mut self, alloc: Global) -> Result<Vec<u64>, FilesFault> {
+        Ok(Vec::new(alloc))
+    }
+
+    fn empty(&mut self) -> Result<(), FilesFault> {
+        Ok(())
+    }
+}
+
+// Once somebody waited for the disk, it has what the journal says before a file is removed past it.
+#[test]
+fn a_removal_without_room_waits_for_the_journal(rt: HostRuntime) {
+    let alloc = rt.alloc();
+    let left = Rc::new(alloc, Cell::new(9)).expect(&rt, "memory");
+    let at_wait = Rc::new(alloc, Cell::new(0)).expect(&rt, "memory");
+    let journal = Roomless {
+        left: left.clone().expect(&rt, "memory"),
+        at_wait: at_wait.clone().expect(&rt, "memory"),
+    };
+    let counted = left.clone().expect(&rt, "memory");
+    let files = StopFiles::new(MemoryFiles::<Outside>::new(alloc), counted);
+    let mut files = Journaled::new(files, journal);
+    assert!(rt; Files::<Outside>::remove(&mut files, 5) == Ok(()));
+    assert!(rt; left.get() == 8 && at_wait.get() == 0);
+    assert!(rt; Files::<Outside>::sync(&mut files, alloc) == Ok(()));
+    at_wait.set(0);
+    assert!(rt; Files::<Outside>::remove(&mut files, 5) == Ok(()));
+    assert!(rt; left.get() == 6 && at_wait.get() == 7);
 }
 
 // Where the journal can't be written, what it had goes into the files, and the change too.
