@@ -1,5 +1,6 @@
 -- How a run ends: the names of its faults, and its status.
-use Rattle.std.specs.Prelude.{◌≡◌, ◌⊎◌, ℕ, List, Result, Ok, Err, ⊤, codes}
+use Rattle.std.specs.Prelude.{ℕ, List, Result, Ok, Err, ⊤, codes}
+use Rattle.std.specs.declared.io.Error.{Error}
 use Rattle.eden_overlay.specs.declared.files.FilesFault.{FilesFault}
 use Rattle.eden_overlay.specs.declared.files.FilesFault.TheVariants as files
 use Rattle.eden_checkout.specs.declared.fault.OpenFault.{OpenFault}
@@ -96,12 +97,18 @@ abbrev pub import_status : Result ⊤ ImportFault → ℕ
 import_status (Ok _) = 0
 import_status (Err fault) = 5
 
--- .. and of an overlay that wasn't tidied
-abbrev pub tidy_status : TidyFault → ℕ
-tidy_status (tidy.Open fault) = 3
-tidy_status (tidy.Remove fault) = 4
+-- .. and of what was done well: by whether it could be told
+abbrev pub told_status : Result ⊤ Error → ℕ
+told_status (Ok _) = 0
+told_status (Err error) = 4
 
--- .. and of one that a rescan refuses though it was repaired, or that wasn't repaired to the end
+-- .. and of the tidying of an overlay, by what it came to, and whether that could be told
+abbrev pub tidied_status : Result (Result ⊤ Error) TidyFault → ℕ
+tidied_status (Ok written) = told_status written
+tidied_status (Err (tidy.Open fault)) = 3
+tidied_status (Err (tidy.Remove fault)) = 4
+
+-- .. and of an overlay that a rescan refuses though it was repaired, or that wasn't repaired to the end
 abbrev pub repair_status : RescanFault → ℕ
 repair_status (rescan.Dangling k) = 3
 repair_status (rescan.Twice k) = 3
@@ -109,6 +116,8 @@ repair_status (rescan.Damaged k refusal) = 3
 repair_status rescan.Device = 4
 repair_status rescan.Memory = 4
 
--- .. and of what was done, and could be told or not
-abbrev pub IsToldStatus : ℕ → Type 0
-IsToldStatus status = (status ≡ 0) ⊎ (status ≡ 4)
+-- .. and of its repair, by what it came to, whether that was stored, and whether it could be told
+abbrev pub repaired_status : Result ℕ RescanFault → Result ⊤ FilesFault → Result ⊤ Error → ℕ
+repaired_status (Err fault) stored written = repair_status fault
+repaired_status (Ok _) (Err fault) written = 4
+repaired_status (Ok _) (Ok _) written = told_status written

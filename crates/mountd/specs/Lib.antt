@@ -2,3 +2,4 @@ pub mod Endings
 pub mod Holding
 pub mod Runs
 pub mod Snapshots
+pub mod Taking

@@ -47,9 +47,9 @@ module _ {W F S : Type 0} (w : Ghosts W) (f : Files F W) (fetched : S → Id →
     pub lived : Lives w f fetched copies limit base settings backing input output left
     pub told : status ≡ status_of left.outcome
 
-  -- A mount was shown as a folder. The messages and their answers are the kernel's, of which contracts know none.
-  pub record IsFolderRun (base : Base) (settings : Settings) (backing : Backing F S) (status : ℕ) : Type 0 where
-    pub manner : Manner
+  -- A mount was shown as a folder that looks so. The messages and their answers are the kernel's, of which contracts know
+  -- none.
+  pub record IsFolderRun (base : Base) (settings : Settings) (backing : Backing F S) (manner : Manner) (status : ℕ) : Type 0 where
     pub line : Line
     pub line' : Line
     pub waiting : Messages
@@ -66,9 +66,8 @@ module _ {W F I O : Type 0} (w : Ghosts W) (f : Files F W) (i : Read I) (o : Wri
     pub told : status ≡ shared_status left.outcome
 
 module _ {W F V O : Type 0} (w : Ghosts W) (f : Files F W) (v : Receiver V) (o : Sender O) (limit : ℕ) where
-  -- a mount was shown as a folder by several threads, and the status tells how that ended
-  pub record IsSharedFolderRun (base : Base) (settings : Settings) (files : F) (status : ℕ) : Type 0 where
-    pub manner : Manner
+  -- a mount was shown as a folder that looks so by several threads, and the status tells how that ended
+  pub record IsSharedFolderRun (base : Base) (settings : Settings) (files : F) (manner : Manner) (status : ℕ) : Type 0 where
     pub left : SharedFolderEnding F
     pub lived : LivesSharedFolder w f v o limit base settings manner files left
     pub told : status ≡ folder_status left.outcome

@@ -1,5 +1,6 @@
 -- The commands that look at a closed overlay: the words of their lines, the names of their faults, and their statuses.
-use Rattle.std.specs.Prelude.{ℕ, Bool, true, false, List, [], codes}
+use Rattle.std.specs.Prelude.{ℕ, Bool, true, false, List, [], Result, Ok, Err, ⊤, codes}
+use Rattle.std.specs.declared.io.Error.{Error}
 use Rattle.eden_model.specs.declared.kind.Mode.{Mode}
 use Rattle.eden_model.specs.declared.kind.Mode.TheVariants as mode
 use Rattle.eden_snapshot.specs.declared.change.How.{How}
@@ -10,6 +11,7 @@ use Rattle.eden_snapshot.specs.declared.fault.SnapshotFault.{SnapshotFault}
 use Rattle.eden_snapshot.specs.declared.fault.SnapshotFault.TheVariants as snapshot
 use Rattle.mountd.specs.declared.snapshot.TakeFault.{TakeFault}
 use Rattle.mountd.specs.declared.snapshot.TakeFault.TheVariants as take
+use Rattle.mountd.specs.Endings.{told_status}
 
 -- the name of why an overlay isn't one that was closed
 abbrev pub closed_name : ClosedFault → List ℕ
@@ -30,10 +32,11 @@ snapshot_name snapshot.Device = codes "Device"
 snapshot_name snapshot.Sink = codes "Sink"
 snapshot_name snapshot.Memory = codes "Memory"
 
--- the status of a snapshot that wasn't taken, or of changes that weren't all told
-abbrev pub take_status : TakeFault → ℕ
-take_status (take.Closed fault) = 3
-take_status (take.Snapshot fault) = 4
+-- the status of a snapshot, or of the telling of changes: by what it came to, and whether that could be written
+abbrev pub taken_status : {T : Type 0} → Result T TakeFault → Result ⊤ Error → ℕ
+taken_status (Ok _) written = told_status written
+taken_status (Err (take.Closed fault)) written = 3
+taken_status (Err (take.Snapshot fault)) written = 4
 
 -- the letter of a change, as Git has it
 abbrev pub how_letter : How → List ℕ

@@ -1,23 +1,22 @@
 //! How what a closed overlay shows differs from the tree that it stands on.
-ghost use Rattle.std.specs.Prelude.{◌≡◌, IfErr, IsOk};
+ghost use Rattle.std.specs.Prelude.{◌≡◌, IsErr};
 ghost use Rattle.std.specs.Process.{exit_status};
-ghost use Rattle.mountd.specs.Endings.{IsToldStatus};
-ghost use Rattle.mountd.specs.Snapshots.{take_status};
+ghost use Rattle.mountd.specs.Taking.{Tells};
 
 use crate::hold::hold_existing;
 use crate::lines::LineSink;
 use crate::overlay_files::{OverlayFiles, overlay_files};
 use crate::report;
 use crate::report::repository_name;
-use crate::snapshot::{TakeFault, closed_name, snapshot_name};
+use crate::snapshot::{TakeFault, snapshot_name, taken};
 use crate::sources::{folder_source, git_source, shared_source, socket_source};
 use eden_git::GitFault;
-use eden_model::{Id, Outside};
-use eden_overlay::Overlay;
-use eden_snapshot::{SnapshotFault, expect_closed};
+use eden_model::{Id, Outside, World};
+use eden_overlay::{Files, Overlay};
+use eden_snapshot::{ChangeSink, SnapshotFault, expect_closed};
 use eden_source::Source;
 use mountd_options::{ClosedOptions, Objects};
-use std::io;
+use std::alloc::Global;
 use std::process::ExitCode;
 
 /// A closed overlay's files, and the tree that they stand on.
@@ -51,8 +50,8 @@ pub fn changes(rt: &HostRuntime, options: ClosedOptions) -> ExitCode {
 /// Tells them with the objects that are asked for.
 fn tell_with(rt: &HostRuntime, objects: Objects, closed: Closed) -> ExitCode {
     match objects {
-        Objects::Folder(folder) => told(rt, tell(rt, closed, folder_source(rt, folder))),
-        Objects::Server(server) => told(rt, tell(rt, closed, socket_source(rt, server))),
+        Objects::Folder(folder) => tell_lines(rt, closed, folder_source(rt, folder)),
+        Objects::Server(server) => tell_lines(rt, closed, socket_source(rt, server)),
         Objects::Repository(repository) => tell_opened(rt, closed, git_source(rt, repository)),
         Objects::RepositoryAndServer(repository, server) => {
             tell_opened(rt, closed, shared_source(rt, repository, server))
@@ -66,45 +65,42 @@ fn tell_opened<S: Source<Outside> + Drop>(
     closed: Closed,
     source: Result<S, GitFault>,
 ) -> ExitCode
-    ensures { IfErr source (λ _. exit_status result ≡ 3) }
+    ensures { IsErr source → exit_status result ≡ 3 }
 {
     match source {
-        Ok(source) => told(rt, tell(rt, closed, source)),
+        Ok(source) => tell_lines(rt, closed, source),
         Err(fault) => report::unopened(rt, repository_name(fault)),
     }
 }
 
-/// Whether the lines could be written to the last, or why there are no more of them. Those before a fault are written.
-fn tell<S: Source<Outside> + Drop>(
+/// Tells them as lines on standard output, also those before a fault.
+fn tell_lines<S: Source<Outside> + Drop>(
     rt: &HostRuntime,
     closed: Closed,
     mut source: S,
-) -> Result<io::Result<()>, TakeFault> {
+) -> ExitCode {
     let Closed { root, files } = closed;
     let alloc = rt.alloc();
-    let mut overlay = Overlay::<Outside, _>::new(alloc, files);
-    expect_closed(alloc, root, &mut overlay)?;
-    let mut sink = match LineSink::new(alloc, rt.stdout()) {
-        Ok(sink) => sink,
-        Err(_) => return Err(TakeFault::Snapshot(SnapshotFault::Memory)),
+    let Ok(mut sink) = LineSink::new(alloc, rt.stdout()) else {
+        return report::ended(rt, "changes", snapshot_name(SnapshotFault::Memory));
     };
-    let outcome = eden_snapshot::changes(alloc, root, &mut overlay, &mut source, &mut sink);
+    let mut overlay = Overlay::<Outside, _>::new(alloc, files);
+    let outcome = tell(alloc, root, &mut overlay, &mut source, &mut sink);
     let written = sink.flush();
-    outcome?;
-    Ok(written)
+    taken(rt, "changes", outcome, written)
 }
 
-/// Tells by which fault not all was told, where there was one.
-///
-/// Status 0; 3, where the overlay isn't one that was closed; 4, where a file or an object failed, or a line can't be
-/// written.
-fn told(rt: &HostRuntime, outcome: Result<io::Result<()>, TakeFault>) -> ExitCode
-    ensures told { IsOk outcome → IsToldStatus (exit_status result) }
-    ensures fault { IfErr outcome (λ fault. exit_status result ≡ take_status fault) }
+/// Tells them to the sink, also those before a fault.
+fn tell<W: World, F: Files<W>, S: Source<W>, C: ChangeSink<W>>(
+    alloc: Global,
+    root: Id,
+    overlay: &mut Overlay<W, F>,
+    source: &mut S,
+    sink: &mut C,
+) -> Result<(), TakeFault>
+    ensures { Tells W.World F.Files C.ChangeSink root overlay.old overlay.new sink.old sink.new result }
 {
-    match outcome {
-        Ok(written) => report::told(rt, "changes", written),
-        Err(TakeFault::Closed(fault)) => report::unopened(rt, closed_name(fault)),
-        Err(TakeFault::Snapshot(fault)) => report::ended(rt, "changes", snapshot_name(fault)),
-    }
+    expect_closed(alloc, root, overlay)?;
+    eden_snapshot::changes(alloc, root, overlay, source, sink)?;
+    Ok(())
 }

@@ -1,5 +1,5 @@
 //! A folder, over the descriptor of the kernel's FUSE protocol as standard input and output.
-ghost use Rattle.std.specs.Prelude.{◌≡◌, IfErr, []};
+ghost use Rattle.std.specs.Prelude.{◌≡◌, IfOk, IsErr, []};
 ghost use Rattle.std.specs.Process.{exit_status};
 ghost use Rattle.eden_checkout.specs.Opening.{MayOpen};
 ghost use Rattle.mountd.specs.Runs.{IsFolderRun, copies_of, limit_of};
@@ -109,17 +109,17 @@ fn show_alone<F: Files<Outside>>(
         }
         Objects::Repository(repository) => {
             let source = git_source(rt, repository);
-            run_opened(rt, base, history, &limits, look, files, source)
+            run_opened::<Outside, _, _>(rt, base, history, &limits, look, files, source)
         }
         Objects::RepositoryAndServer(repository, server) => {
             let source = shared_source(rt, repository, server);
-            run_opened(rt, base, history, &limits, look, files, source)
+            run_opened::<Outside, _, _>(rt, base, history, &limits, look, files, source)
         }
     }
 }
 
 /// Shows a mount over these files, where its objects' repository could be opened.
-fn run_opened<F: Files<Outside>, S: Source<Outside> + Drop>(
+fn run_opened<W: World, F: Files<W>, S: Source<W> + Drop>(
     rt: &HostRuntime,
     base: Base,
     history: HistoryOption,
@@ -128,12 +128,14 @@ fn run_opened<F: Files<Outside>, S: Source<Outside> + Drop>(
     files: F,
     source: Result<S, GitFault>,
 ) -> ExitCode
-    ensures { IfErr source (λ _. exit_status result ≡ 3) }
+    requires files { W.honest → MayOpen base.opening W.repository W.opening W.numbers base.root (F.stored files) }
+    ensures run { IfOk source (λ source. IsFolderRun W.World F.Files S.fetched (copies_of history)
+        (limit_of history limits.now) base limits.now (record { files = files; source = source }) look.manner
+        (exit_status result)) }
+    ensures refused { IsErr source → exit_status result ≡ 3 }
 {
     match source {
-        Ok(source) => {
-            run::<Outside, _, _>(rt, base, history, limits, look, Backing { files, source })
-        }
+        Ok(source) => run::<W, _, _>(rt, base, history, limits, look, Backing { files, source }),
         Err(fault) => report::unopened(rt, repository_name(fault)),
     }
 }
@@ -150,7 +152,7 @@ fn run<W: World, F: Files<W>, S: Source<W> + Drop>(
     requires files { W.honest → MayOpen base.opening W.repository W.opening W.numbers base.root
         (F.stored backing.files) }
     ensures { IsFolderRun W.World F.Files S.fetched (copies_of history) (limit_of history limits.now) base limits.now
-        backing (exit_status result) }
+        backing look.manner (exit_status result) }
 {
     let memory = rt.alloc();
     match history {
@@ -177,7 +179,7 @@ fn run_with<W: World, F: Files<W>, S: Source<W> + Drop, H: History>(
     requires files { W.honest → MayOpen base.opening W.repository W.opening W.numbers base.root
         (F.stored backing.files) }
     requires empty { H.entries history ≡ [] }
-    ensures { IsFolderRun W.World F.Files S.fetched H.copies (H.limit history) base limits.now backing
+    ensures { IsFolderRun W.World F.Files S.fetched H.copies (H.limit history) base limits.now backing look.manner
         (exit_status result) }
 {
     let mut input = KernelInput::new(rt.stdin());

@@ -77,7 +77,7 @@ fn main(rt: HostRuntime) -> ExitCode {
         Ok(Command::Repair(options)) => repair(&rt, options),
         Ok(Command::Snapshot(options)) => snapshot(&rt, options),
         Ok(Command::Changes(options)) => changes(&rt, options),
-        Ok(Command::Version) => version(&rt),
+        Ok(Command::Version) => report::told(&rt, "version", version(&rt)),
         Err(error) => report::command_line(&rt, &error),
     }
 }

@@ -1,11 +1,11 @@
 //! How a run ends: with status 0, or with a line on standard error and another.
 //!
 //! Where standard error can't be written, the status alone tells.
-ghost use Rattle.std.specs.Prelude.{◌≡◌, IfErr, IsErr, IsOk};
+ghost use Rattle.std.specs.Prelude.{◌≡◌};
 ghost use Rattle.std.specs.Process.{exit_status};
-ghost use Rattle.mountd.specs.Endings.{IsToldStatus, close_name, folder_status, import_status, open_name};
-ghost use Rattle.mountd.specs.Endings.{repair_status, repository_name, session_name};
-ghost use Rattle.mountd.specs.Endings.{server_status, shared_status, status_of, tidy_status};
+ghost use Rattle.mountd.specs.Endings.{close_name, folder_status, import_status, open_name, repaired_status};
+ghost use Rattle.mountd.specs.Endings.{repository_name, server_status, session_name, shared_status, status_of};
+ghost use Rattle.mountd.specs.Endings.{tidied_status, told_status};
 
 use crate::server::ServerFault;
 use eden_checkout::{OpenFault, TidyFault};
@@ -13,7 +13,7 @@ use eden_fuse_life::FolderFault;
 use eden_fuse_session::SessionFault;
 use eden_git::GitFault;
 use eden_object_writer::ImportFault;
-use eden_overlay::{FilesFault, Removed, RescanFault};
+use eden_overlay::{FilesFault, RescanFault};
 use eden_serve_life::SharedLifeFault;
 use eden_stdio_life::LifeFault;
 use mountd_options::OptionsError;
@@ -143,18 +143,14 @@ pub fn import<R: Eprint>(rt: &R, outcome: Result<(), ImportFault>) -> ExitCode
     }
 }
 
-/// Tells how much was removed from an overlay, or by which fault it wasn't tidied.
+/// Tells by which fault an overlay wasn't tidied, or that how much was removed couldn't be written, where that is so.
 ///
 /// Status 0; 3, where the overlay isn't one that was closed; 4, where a removal failed, or the line can't be written.
-pub fn tidied<R: Print + Eprint>(rt: &R, outcome: Result<Removed, TidyFault>) -> ExitCode
-    ensures told { IsOk outcome → IsToldStatus (exit_status result) }
-    ensures fault { IfErr outcome (λ fault. exit_status result ≡ tidy_status fault) }
+pub fn tidied<R: Eprint>(rt: &R, outcome: Result<io::Result<()>, TidyFault>) -> ExitCode
+    ensures { exit_status result ≡ tidied_status outcome }
 {
     match outcome {
-        Ok(Removed { files, bytes }) => {
-            let written = println!(rt; "removed {files} files, {bytes} bytes");
-            told(rt, "tidy", written)
-        }
+        Ok(written) => told(rt, "tidy", written),
         Err(TidyFault::Open(fault)) => unopened(rt, open_name(fault)),
         Err(TidyFault::Remove(fault)) => ended(rt, "tidy", close_name(fault)),
     }
@@ -170,10 +166,7 @@ pub fn repaired<R: Eprint>(
     stored: Result<(), FilesFault>,
     written: io::Result<()>,
 ) -> ExitCode
-    ensures told { IsOk outcome → IsOk stored → IsToldStatus (exit_status result) }
-    ensures fault { IfErr outcome (λ fault. exit_status result ≡ repair_status fault) }
-    ensures unstored { IsOk outcome → IsErr stored → exit_status result ≡ 4 }
-    ensures unwritten { IsOk outcome → IsErr written → exit_status result ≡ 4 }
+    ensures { exit_status result ≡ repaired_status outcome stored written }
 {
     match (outcome, stored) {
         (Ok(_), Ok(())) => told(rt, "repair", written),
@@ -188,8 +181,7 @@ pub fn repaired<R: Eprint>(
 
 /// Tells by which fault `what` couldn't be written, where it couldn't be. Status 0, or 4.
 pub fn told<R: Eprint>(rt: &R, what: &str, written: io::Result<()>) -> ExitCode
-    ensures told { IsOk written → exit_status result ≡ 0 }
-    ensures fault { IsErr written → exit_status result ≡ 4 }
+    ensures { exit_status result ≡ told_status written }
 {
     match written {
         Ok(()) => ExitCode::SUCCESS,

@@ -1,5 +1,5 @@
 //! Many callers of a mount, each over a connection.
-ghost use Rattle.std.specs.Prelude.{◌≡◌, ◌≤◌, IfErr, IfOk, [], length};
+ghost use Rattle.std.specs.Prelude.{◌≡◌, ◌≤◌, IfOk, IsErr, IsOk, [], length};
 ghost use Rattle.std.specs.Process.{exit_status};
 ghost use Rattle.eden_checkout.specs.Opening.{MayOpen};
 ghost use Rattle.mountd.specs.Runs.{IsSharedRun, limit_of};
@@ -98,26 +98,26 @@ fn serve_files<R: Threads + Wait + Sync, F: Files<Outside> + Send>(
         Objects::Folder(folder) => {
             let sources = folder_sources(rt, folder.as_str(), fetchers);
             let sources = sources.map_err(|_| GitFault::Memory);
-            serve_fetched(
+            serve_fetched::<Outside, _, _, _, _, _, _>(
                 threads, rt, base, history, &limits, files, sources, listener,
             )
         }
         Objects::Server(server) => {
             let sources = socket_sources(rt, &server, fetchers);
             let sources = sources.map_err(|_| GitFault::Memory);
-            serve_fetched(
+            serve_fetched::<Outside, _, _, _, _, _, _>(
                 threads, rt, base, history, &limits, files, sources, listener,
             )
         }
         Objects::Repository(repository) => {
             let sources = git_sources(rt, repository.as_str(), fetchers);
-            serve_fetched(
+            serve_fetched::<Outside, _, _, _, _, _, _>(
                 threads, rt, base, history, &limits, files, sources, listener,
             )
         }
         Objects::RepositoryAndServer(repository, server) => {
             let sources = shared_sources(rt, repository.as_str(), &server, fetchers);
-            serve_fetched(
+            serve_fetched::<Outside, _, _, _, _, _, _>(
                 threads, rt, base, history, &limits, files, sources, listener,
             )
         }
@@ -126,9 +126,13 @@ fn serve_files<R: Threads + Wait + Sync, F: Files<Outside> + Send>(
 
 /// Serves sessions on a mount over these files, where the sources of its fetchers could be made.
 fn serve_fetched<
+    W: World + Send,
+    F: Files<W> + Send,
+    S: Source<W> + Send + Drop,
+    I: Read + Send + Drop,
+    O: Write + Send + Drop,
+    L: Accepts<I, O> + Drop,
     R: Threads + Wait + Sync,
-    F: Files<Outside> + Send,
-    S: Source<Outside> + Send + Drop,
 >(
     threads: &R,
     rt: &HostRuntime,
@@ -137,16 +141,19 @@ fn serve_fetched<
     limits: &Config,
     files: F,
     sources: Result<Vec<S>, GitFault>,
-    listener: Listener<HostRuntime, HostRuntime>,
+    listener: L,
 ) -> ExitCode
+    requires files { W.honest → MayOpen base.opening W.repository W.opening W.numbers base.root (F.stored files) }
     requires some { IfOk sources (λ sources. 1 ≤ length sources.items) }
-    ensures { IfErr sources (λ _. exit_status result ≡ 3) }
+    ensures run { IsOk sources → IsSharedRun W.World F.Files I.Read O.Write (limit_of history limits.now) base
+        limits.now files (exit_status result) }
+    ensures refused { IsErr sources → exit_status result ≡ 3 }
 {
     match sources {
         Ok(sources) => {
             let source = Fetchers::new(sources);
             let backing = Backing { files, source };
-            run::<Outside, _, _, _, _, _, _>(threads, rt, base, history, limits, backing, listener)
+            run::<W, F, S, I, O, L, R>(threads, rt, base, history, limits, backing, listener)
         }
         Err(fault) => report::unopened(rt, repository_name(fault)),
     }

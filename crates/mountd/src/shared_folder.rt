@@ -1,5 +1,5 @@
 //! A folder that several threads serve, over one shared mount.
-ghost use Rattle.std.specs.Prelude.{◌≡◌, ◌≤◌, IfErr, IfOk, [], length};
+ghost use Rattle.std.specs.Prelude.{◌≡◌, ◌≤◌, IfOk, IsErr, IsOk, [], length};
 ghost use Rattle.std.specs.Process.{exit_status};
 ghost use Rattle.eden_checkout.specs.Opening.{MayOpen};
 ghost use Rattle.mountd.specs.Runs.{IsSharedFolderRun, limit_of};
@@ -42,6 +42,7 @@ pub fn share_files<R: Threads + Wait + Sync, F: Files<Outside> + Send>(
         limits,
         ..
     } = options;
+    let lines = KernelLines::new(rt.stdin(), rt.stdout());
     // One for each thread, and another for turns.
     let count = limits.passes();
     let base = Base {
@@ -52,29 +53,41 @@ pub fn share_files<R: Threads + Wait + Sync, F: Files<Outside> + Send>(
         Objects::Folder(folder) => {
             let sources = folder_sources(rt, folder.as_str(), count);
             let sources = sources.map_err(|_| GitFault::Memory);
-            share_fetched(threads, rt, base, history, &limits, look, files, sources)
+            share_fetched::<Outside, _, _, _, _, _, _>(
+                threads, rt, base, history, &limits, look, files, sources, &lines,
+            )
         }
         Objects::Server(server) => {
             let sources = socket_sources(rt, &server, count);
             let sources = sources.map_err(|_| GitFault::Memory);
-            share_fetched(threads, rt, base, history, &limits, look, files, sources)
+            share_fetched::<Outside, _, _, _, _, _, _>(
+                threads, rt, base, history, &limits, look, files, sources, &lines,
+            )
         }
         Objects::Repository(repository) => {
             let sources = git_sources(rt, repository.as_str(), count);
-            share_fetched(threads, rt, base, history, &limits, look, files, sources)
+            share_fetched::<Outside, _, _, _, _, _, _>(
+                threads, rt, base, history, &limits, look, files, sources, &lines,
+            )
         }
         Objects::RepositoryAndServer(repository, server) => {
             let sources = shared_sources(rt, repository.as_str(), &server, count);
-            share_fetched(threads, rt, base, history, &limits, look, files, sources)
+            share_fetched::<Outside, _, _, _, _, _, _>(
+                threads, rt, base, history, &limits, look, files, sources, &lines,
+            )
         }
     }
 }
 
 /// Shows a mount over these files, where the sources of its threads could be made.
 fn share_fetched<
+    W: World + Send,
+    F: Files<W> + Send,
+    S: Source<W> + Send + Drop,
+    V: Receiver + Send + Drop,
+    O: Sender + Send + Drop,
+    G: Lines<V, O> + Sync,
     R: Threads + Wait + Sync,
-    F: Files<Outside> + Send,
-    S: Source<Outside> + Send + Drop,
 >(
     threads: &R,
     rt: &HostRuntime,
@@ -84,20 +97,18 @@ fn share_fetched<
     look: Look,
     files: F,
     sources: Result<Vec<S>, GitFault>,
+    lines: &G,
 ) -> ExitCode
+    requires files { W.honest → MayOpen base.opening W.repository W.opening W.numbers base.root (F.stored files) }
     requires sources { IfOk sources (λ sources. limits.now.passes ≤ length sources.items) }
-    ensures { IfErr sources (λ _. exit_status result ≡ 3) }
+    ensures run { IsOk sources → IsSharedFolderRun W.World F.Files V.Receiver O.Sender (limit_of history limits.now)
+        base limits.now files look.manner (exit_status result) }
+    ensures refused { IsErr sources → exit_status result ≡ 3 }
 {
     match sources {
-        Ok(sources) => {
-            let backing = Backing {
-                files,
-                source: sources,
-            };
-            let lines = KernelLines::new(rt.stdin(), rt.stdout());
-            run::<Outside, F, S, KernelInput, KernelOutput, KernelLines, R>(
-                threads, rt, base, history, limits, look, backing, &lines,
-            )
+        Ok(source) => {
+            let backing = Backing { files, source };
+            run::<W, F, S, V, O, G, R>(threads, rt, base, history, limits, look, backing, lines)
         }
         Err(fault) => report::unopened(rt, repository_name(fault)),
     }
@@ -126,7 +137,7 @@ fn run<
         (F.stored backing.files) }
     requires sources { limits.now.passes ≤ length backing.source.items }
     ensures { IsSharedFolderRun W.World F.Files V.Receiver O.Sender (limit_of history limits.now) base limits.now
-        backing.files (exit_status result) }
+        backing.files look.manner (exit_status result) }
 {
     let memory = rt.alloc();
     match history {
@@ -170,7 +181,7 @@ fn run_with<
     requires empty { H.entries history ≡ [] }
     requires sources { limits.now.passes ≤ length backing.source.items }
     ensures { IsSharedFolderRun W.World F.Files V.Receiver O.Sender (H.limit history) base limits.now backing.files
-        (exit_status result) }
+        look.manner (exit_status result) }
 {
     let ending = live_shared_folder::<W, F, H, S, V, O, G, HostRuntime, R>(
         threads,

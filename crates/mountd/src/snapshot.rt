@@ -1,21 +1,21 @@
 //! What a closed overlay shows, as Git's objects in a folder.
-ghost use Rattle.std.specs.Prelude.{◌≡◌, IfErr, IsOk};
+ghost use Rattle.std.specs.Prelude.{◌≡◌, IsErr, IsOk};
 ghost use Rattle.std.specs.Process.{exit_status};
-ghost use Rattle.mountd.specs.Endings.{IsToldStatus};
-ghost use Rattle.mountd.specs.Snapshots.{closed_name, snapshot_name, take_status};
+ghost use Rattle.mountd.specs.Snapshots.{closed_name, snapshot_name, taken_status};
+ghost use Rattle.mountd.specs.Taking.{IsSnapshotRun, Takes};
 ghost use Rattle.mountd.specs.declared.snapshot.TakeFault.TheVariants as take;
 
 use crate::hold::hold_existing;
-use crate::overlay_files::{OverlayFiles, overlay_files};
+use crate::overlay_files::overlay_files;
 use crate::report;
 use crate::report::repository_name;
 use crate::sink::FolderSink;
 use crate::sources::{folder_source, git_source, shared_source, socket_source};
 use eden_git::GitFault;
-use eden_model::{Id, Outside};
+use eden_model::{Id, Outside, World};
 use eden_object_writer::{Progress, Store};
-use eden_overlay::Overlay;
-use eden_snapshot::{ClosedFault, CommitSubmodules, SnapshotFault, expect_closed};
+use eden_overlay::{Files, Overlay};
+use eden_snapshot::{ClosedFault, CommitSubmodules, Sink, SnapshotFault, expect_closed};
 use eden_source::Source;
 use mountd_options::{ClosedOptions, Objects, SnapshotOptions};
 use std::alloc::Global;
@@ -25,10 +25,10 @@ use std::process::ExitCode;
 
 /// A closed overlay's files, and where its objects go.
 #[derive(Drop)]
-struct Work {
+struct Work<F, K> {
     root: Id,
-    files: OverlayFiles,
-    sink: FolderSink<HostRuntime>,
+    files: F,
+    sink: K,
 }
 
 /// Why a snapshot wasn't taken, or not all changes were told.
@@ -80,68 +80,101 @@ pub fn snapshot(rt: &HostRuntime, options: SnapshotOptions) -> ExitCode {
 }
 
 /// Does the work with the objects that are asked for.
-fn take_with(rt: &HostRuntime, objects: Objects, work: Work) -> ExitCode {
+fn take_with<F: Files<Outside>, K: Sink<Outside> + Drop>(
+    rt: &HostRuntime,
+    objects: Objects,
+    work: Work<F, K>,
+) -> ExitCode {
     match objects {
-        Objects::Folder(folder) => taken(rt, take(rt, work, folder_source(rt, folder))),
-        Objects::Server(server) => taken(rt, take(rt, work, socket_source(rt, server))),
-        Objects::Repository(repository) => take_opened(rt, work, git_source(rt, repository)),
+        Objects::Folder(folder) => run::<Outside, _, _, _>(rt, work, folder_source(rt, folder)),
+        Objects::Server(server) => run::<Outside, _, _, _>(rt, work, socket_source(rt, server)),
+        Objects::Repository(repository) => {
+            run_opened::<Outside, _, _, _>(rt, work, git_source(rt, repository))
+        }
         Objects::RepositoryAndServer(repository, server) => {
-            take_opened(rt, work, shared_source(rt, repository, server))
+            run_opened::<Outside, _, _, _>(rt, work, shared_source(rt, repository, server))
         }
     }
 }
 
 /// Does the work where its objects' repository could be opened.
-fn take_opened<S: Source<Outside> + Drop>(
+fn run_opened<W: World, F: Files<W>, K: Sink<W> + Drop, S: Source<W> + Drop>(
     rt: &HostRuntime,
-    work: Work,
+    work: Work<F, K>,
     source: Result<S, GitFault>,
 ) -> ExitCode
-    ensures { IfErr source (λ _. exit_status result ≡ 3) }
+    ensures run { IsOk source
+        → IsSnapshotRun W.World F.Files K.Sink work.root work.files work.sink (exit_status result) }
+    ensures refused { IsErr source → exit_status result ≡ 3 }
 {
     match source {
-        Ok(source) => taken(rt, take(rt, work, source)),
+        Ok(source) => run::<W, _, _, _>(rt, work, source),
         Err(fault) => report::unopened(rt, repository_name(fault)),
     }
 }
 
-/// The tree's id, once its objects are in the folder.
-fn take<S: Source<Outside> + Drop>(
+/// Does the work with these objects.
+fn run<W: World, F: Files<W>, K: Sink<W> + Drop, S: Source<W> + Drop>(
     rt: &HostRuntime,
-    work: Work,
+    work: Work<F, K>,
     source: S,
-) -> Result<Id, TakeFault> {
+) -> ExitCode
+    ensures { IsSnapshotRun W.World F.Files K.Sink work.root work.files work.sink (exit_status result) }
+{
     let Work {
         root,
         files,
         mut sink,
     } = work;
     let alloc = rt.alloc();
-    let mut overlay = Overlay::<Outside, _>::new(alloc, files);
-    expect_closed(alloc, root, &mut overlay)?;
+    let mut overlay = Overlay::<W, _>::new(alloc, files);
+    let outcome = take::<W, _, _, _>(alloc, root, &mut overlay, &mut sink, source);
+    let written = print_id(rt, alloc, &outcome);
+    taken(rt, "snapshot", outcome, written)
+}
+
+/// The tree's id, once its objects are in the sink.
+fn take<W: World, F: Files<W>, K: Sink<W>, S: Source<W> + Drop>(
+    alloc: Global,
+    root: Id,
+    overlay: &mut Overlay<W, F>,
+    sink: &mut K,
+    source: S,
+) -> Result<Id, TakeFault>
+    ensures { Takes W.World F.Files K.Sink root overlay.old overlay.new sink.old sink.new result }
+{
+    expect_closed(alloc, root, overlay)?;
     let mut submodules = CommitSubmodules::new(source, root);
-    let id = eden_snapshot::snapshot(alloc, root, &mut overlay, &mut sink, &mut submodules)?;
+    let id = eden_snapshot::snapshot(alloc, root, overlay, sink, &mut submodules)?;
     Ok(id)
 }
 
-/// Prints the id, or tells by which fault there is none.
-///
-/// Status 0; 3, where the overlay isn't one that was closed; 4, where a file, an object or the folder failed, or the
-/// line can't be written.
-fn taken(rt: &HostRuntime, outcome: Result<Id, TakeFault>) -> ExitCode
-    ensures told { IsOk outcome → IsToldStatus (exit_status result) }
-    ensures fault { IfErr outcome (λ fault. exit_status result ≡ take_status fault) }
-{
-    match outcome {
-        Ok(id) => report::told(rt, "snapshot", print_id(rt, rt.alloc(), id)),
-        Err(TakeFault::Closed(fault)) => report::unopened(rt, closed_name(fault)),
-        Err(TakeFault::Snapshot(fault)) => report::ended(rt, "snapshot", snapshot_name(fault)),
-    }
-}
-
-fn print_id<R: Print>(rt: &R, alloc: Global, id: Id) -> io::Result<()> {
+/// Prints the id, if there is one.
+fn print_id<R: Print>(rt: &R, alloc: Global, outcome: &Result<Id, TakeFault>) -> io::Result<()> {
+    let Ok(id) = outcome else {
+        return Ok(());
+    };
     let digits = hex::encode(alloc, id.bytes)?;
     println!(rt; "{digits}")
+}
+
+/// Tells by which fault `what` wasn't done to its end, or couldn't be written, where there was one.
+///
+/// Status 0; 3, where the overlay isn't one that was closed; 4, where a file, an object or the folder failed, or a line
+/// can't be written.
+pub fn taken<R: Eprint, T: Drop>(
+    rt: &R,
+    what: &str,
+    outcome: Result<T, TakeFault>,
+    written: io::Result<()>,
+) -> ExitCode
+    ensures { exit_status result ≡ taken_status outcome written }
+{
+    match outcome {
+        Ok(_) => report::told(rt, what, written),
+        Err(TakeFault::Closed(fault)) => report::unopened(rt, closed_name(fault)),
+        Err(TakeFault::Snapshot(fault)) => report::ended(rt, what, snapshot_name(fault)),
+    }
 }
 
 /// The name of why an overlay isn't one that was closed.

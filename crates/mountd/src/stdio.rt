@@ -1,5 +1,5 @@
 //! One caller of a mount, over standard input and output.
-ghost use Rattle.std.specs.Prelude.{◌≡◌, IfErr, []};
+ghost use Rattle.std.specs.Prelude.{◌≡◌, IfOk, IsErr, []};
 ghost use Rattle.std.specs.Process.{exit_status};
 ghost use Rattle.eden_checkout.specs.Opening.{MayOpen};
 ghost use Rattle.mountd.specs.Runs.{IsRun, copies_of, limit_of};
@@ -60,17 +60,17 @@ fn serve_files<F: Files<Outside>>(rt: &HostRuntime, options: MountOptions, files
         }
         Objects::Repository(repository) => {
             let source = git_source(rt, repository);
-            run_opened(rt, base, history, &limits, files, source)
+            run_opened::<Outside, _, _>(rt, base, history, &limits, files, source)
         }
         Objects::RepositoryAndServer(repository, server) => {
             let source = shared_source(rt, repository, server);
-            run_opened(rt, base, history, &limits, files, source)
+            run_opened::<Outside, _, _>(rt, base, history, &limits, files, source)
         }
     }
 }
 
 /// Serves a session on a mount over these files, where its objects' repository could be opened.
-fn run_opened<F: Files<Outside>, S: Source<Outside> + Drop>(
+fn run_opened<W: World, F: Files<W>, S: Source<W> + Drop>(
     rt: &HostRuntime,
     base: Base,
     history: HistoryOption,
@@ -78,10 +78,14 @@ fn run_opened<F: Files<Outside>, S: Source<Outside> + Drop>(
     files: F,
     source: Result<S, GitFault>,
 ) -> ExitCode
-    ensures { IfErr source (λ _. exit_status result ≡ 3) }
+    requires files { W.honest → MayOpen base.opening W.repository W.opening W.numbers base.root (F.stored files) }
+    ensures run { IfOk source (λ source. IsRun W.World F.Files S.fetched (copies_of history)
+        (limit_of history limits.now) base limits.now (record { files = files; source = source })
+        (exit_status result)) }
+    ensures refused { IsErr source → exit_status result ≡ 3 }
 {
     match source {
-        Ok(source) => run::<Outside, _, _>(rt, base, history, limits, Backing { files, source }),
+        Ok(source) => run::<W, _, _>(rt, base, history, limits, Backing { files, source }),
         Err(fault) => report::unopened(rt, repository_name(fault)),
     }
 }

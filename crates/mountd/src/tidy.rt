@@ -7,6 +7,7 @@ use eden_model::Outside;
 use eden_overlay::{FolderFiles, Overlay, Removed};
 use mountd_options::TidyOptions;
 use std::alloc::{Alloc, Global};
+use std::io;
 use std::process::ExitCode;
 use std::rt::Files;
 
@@ -18,12 +19,21 @@ pub fn tidy(rt: &HostRuntime, options: TidyOptions) -> ExitCode {
         Ok((folder, lock)) => {
             let status = match overlay_files(rt, folder) {
                 Err(fault) => report::unopened(rt, fault.name()),
-                Ok(files) => report::tidied(rt, tidy_files(rt.alloc(), files.into_files())),
+                Ok(files) => report::tidied(rt, tidy_told(rt, files.into_files())),
             };
             drop(lock);
             status
         }
     }
+}
+
+/// Whether the line could be written, once they are removed.
+fn tidy_told(
+    rt: &HostRuntime,
+    files: FolderFiles<HostRuntime>,
+) -> Result<io::Result<()>, TidyFault> {
+    let Removed { files, bytes } = tidy_files(rt.alloc(), files)?;
+    Ok(println!(rt; "removed {files} files, {bytes} bytes"))
 }
 
 /// Removes them, the orphans first.

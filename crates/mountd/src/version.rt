@@ -1,6 +1,5 @@
 //! Which program this is.
-use crate::report;
-use std::process::ExitCode;
+use std::io;
 
 /// What the file VERSION says.
 const VERSION: &str = "0.1.0";
@@ -15,12 +14,7 @@ const TOOLCHAINS: &[&str] = &[
 const OVERLAYS: &[u32] = &[1, 2];
 
 /// Tells on standard output, line by line, the version, which toolchains prove it, and which overlays it reads.
-/// Status 0, or 4 where that can't be written.
-pub fn version<R: Print + Eprint>(rt: &R) -> ExitCode {
-    report::told(rt, "version", tell(rt))
-}
-
-fn tell<R: Print>(rt: &R) -> std::io::Result<()> {
+pub fn version<R: Print>(rt: &R) -> io::Result<()> {
     println!(rt; "mountd {VERSION}")?;
     for toolchain in TOOLCHAINS {
         println!(rt; "proved with {toolchain}")?;
