@@ -19,6 +19,9 @@ Place = tuple[int, bytes]
 LONGEST_NAME, LONGEST_PATH, MOST_NAMES = 255, 4_095, 256
 # So many bytes of all files together wait to be stored.
 MOST_WAITING = 128 << 20
+# .. once one file's bytes wait with others between.
+MOST_BRIDGED = 64 << 20
+MOST_READ = 65_536
 ROOT = 1
 HIDDEN = b"\xff" * 4
 # For how many seconds the kernel may keep what it is told.
@@ -176,10 +179,11 @@ class FolderModel:
         self.waits: dict[int, Extent] = {}
         self.given = {ROOT}
 
-    def end(self) -> None:
-        """What is made of a session's end: all that waits is stored, or dropped where that is refused."""
-        for node in sorted(self.waits):
-            self.empty(node)
+    def end(self) -> str | None:
+        """What is made of a session's end: all that waits is stored, or dropped where that is refused. The first
+        error."""
+        errors = [error for node in sorted(self.waits) if (error := self.empty(node))]
+        return errors[0] if errors else None
 
     def answer(self, data: bytes, told: bytes) -> bytes | None:
         """The answer to a message, where that one was told; None, if there is to be none."""
@@ -213,17 +217,42 @@ class FolderModel:
         room = MOST_WAITING - sum(len(extent.data) for extent in self.waits.values())
         return held.start <= offset <= held.end() and offset + len(data) <= LONGEST_FILE and len(data) <= room
 
+    def bridge(self, node: int, offset: int, data: bytes) -> bool:
+        """Bytes that begin elsewhere wait with what the file has between, if that is read and there is room for it."""
+        held = self.waits.get(node)
+        if held is None or held.start <= offset <= held.end() or not held.data or not data:
+            return False
+        start, end = (offset, held.start) if offset < held.start else (held.end(), offset)
+        room = MOST_BRIDGED - sum(len(extent.data) for extent in self.waits.values())
+        if held.end() > LONGEST_FILE or offset + len(data) > LONGEST_FILE or end - start + len(data) > room:
+            return False
+        try:
+            path = self.path(node)
+            between = b"".join(data_in(self.tree.read(path, at, min(MOST_READ, end - at)))
+                               for at in range(start, end, MOST_READ)).ljust(end - start, b"\0")
+        except (Refused, Unknown):
+            return False
+        whole = Extent(offset, between + held.data) if offset < held.start else Extent(held.start, held.data + between)
+        self.waits[node] = whole.joined(offset, data)
+        return True
+
     def settle(self, node: int) -> None:
         """What waits for a node is stored. Where that is refused, it waits still."""
         if node in self.waits:
             self.tree.patch(self.path(node), *self.waits[node])
             del self.waits[node]
 
-    def empty(self, node: int) -> None:
-        """.. where that is refused, it is dropped."""
-        with contextlib.suppress(Refused, Unknown):
+    def empty(self, node: int) -> str | None:
+        """.. where that is refused, it is dropped: then the error."""
+        error = None
+        try:
             self.settle(node)
+        except Refused as refusal:
+            error = refusal.args[0]
+        except Unknown:
+            error = "EIO"
         self.waits.pop(node, None)
+        return error
 
     def settle_at(self, place: Place) -> None:
         """.. for the node that stands there."""
@@ -372,6 +401,8 @@ class FolderModel:
         """It waits if it may, at the latest once what waited is stored. Nobody looks for the node until then."""
         data: bytes = more[-1]
         if not self.may_wait(node, offset, data):
+            if self.bridge(node, offset, data):
+                return WRITTEN.pack(size, 0)
             self.settle(node)
         if self.may_wait(node, offset, data):
             self.waits[node] = self.waits.get(node, Extent(offset, b"")).joined(offset, data)

@@ -368,6 +368,29 @@ def copies(top: pathlib.Path) -> Steps:
     yield "read at the end", two.read_bytes()
 
 
+def pieces(top: pathlib.Path) -> Steps:
+    """Pieces all over a file that was closed, and over one that grows by them: what lies between stays."""
+    chance = random.Random(9)
+    old, new = top / "old", top / "new"
+    old.write_bytes(chance.randbytes(3_000_000))
+    with opened(old, os.O_RDWR) as one, opened(new, os.O_RDWR | os.O_CREAT) as two:
+        for number in range(120):
+            at, data = chance.randrange(3_200_000), chance.randbytes(chance.choice((1, 300, 4_096, 70_000)))
+            os.pwrite(one, data, at)
+            os.pwrite(two, data, at // 4)
+            if number % 40 == 30:
+                yield "read among the pieces", os.pread(one, 100_000, max(at - 50_000, 0))
+                yield "size of what grows", os.fstat(two).st_size
+    yield "the file that was there", old.read_bytes()
+    yield "the one that grew", new.read_bytes()
+    os.truncate(old, 80_000_000)
+    with opened(old, os.O_RDWR) as one:
+        for at in 10, 79_999_000, 40_000_000, 11:
+            yield "write far apart", os.pwrite(one, b"far", at)
+        yield "read far apart", [os.pread(one, 9, at) for at in (8, 39_999_998, 79_998_998, 79_999_998)]
+    yield "size at the end", old.stat().st_size
+
+
 def kept_room(top: pathlib.Path) -> Steps:
     """Room that is kept for a file behind its end, and holes that are made in it."""
     path = top / "file"
@@ -672,6 +695,6 @@ def large(top: pathlib.Path) -> Steps:
 
 CALLS: list[Callable[[pathlib.Path], Steps]] = [
     removed_while_open, replaced_while_open, moved_folder, removed_folder, removed_where_one_stands, exclusive,
-    appending, cut, positions, through_memory, programs, copies, kept_room, locks, times, stamps, permissions, counted,
-    listings, kinds_in_rows, odd_names, hidden_names, refused_kinds, long_links, deep, large,
+    appending, cut, positions, through_memory, programs, copies, pieces, kept_room, locks, times, stamps, permissions,
+    counted, listings, kinds_in_rows, odd_names, hidden_names, refused_kinds, long_links, deep, large,
 ]

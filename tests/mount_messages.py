@@ -7,6 +7,7 @@ import contextlib
 import os
 import pathlib
 import random
+import select
 import socket
 import struct
 import subprocess
@@ -189,7 +190,8 @@ def check_rows(folder: pathlib.Path) -> None:
                 check(f"unknown node {node}: {word} after a write",
                       kernel.asked(spelled(word, 9, unknown, *fields)), answered(9, "ESTALE"))
         check("rows: as before", kernel.asked(LOOKUP), found)
-        check("rows: the end", kernel.end(), (0, b""))
+        # What was written to nodes that aren't known is lost.
+        check("rows: the end", kernel.end(), (4, b"mountd: store ESTALE\n"))
 
 
 def number_in(entry: bytes) -> int:
@@ -582,9 +584,11 @@ def lost_again(nodes: Nodes) -> Nodes:
 
 
 def check_end(name: str, kernel: Kernel, place: Place, commit: Commit, model: FolderModel, kills: int = 0) -> None:
-    """It ends well, and the files of the overlay show the tree, with what waited in it."""
-    check(f"{name}: the end", kernel.end(), CLOSED)
-    model.end()
+    """It ends well, or tells what couldn't be stored, and the files of the overlay show the tree, with what waited in
+    it."""
+    ended, lost = kernel.end(), model.end()
+    told = lost if lost in ("EIO", "ENOMEM", "ENAMETOOLONG", "ESTALE") else "Refused"
+    check(f"{name}: the end", ended, (4, f"mountd: store {told}\n".encode()) if lost else CLOSED)
     check_closed(name, place, commit, WholeTree(found(model.tree.nodes)), kills)
 
 
@@ -753,6 +757,33 @@ def flushing(node: int) -> bytes:
 
 def syncing(node: int) -> bytes:
     return spelled("fsync", 5, node, 0, 0, 0)
+
+
+def check_unstored(folder: pathlib.Path) -> None:
+    """What can't be stored once no more messages come is told, beside a fault of the session too. The rest is stored,
+    and the overlay closed."""
+    for name, ended, lines in [("alone", Kernel.end, b""), ("after a fault", lost, b"mountd: session Receive\n")]:
+        (folder / name).mkdir()
+        place, commit, model = make_place(folder / name)
+        # The start, two look-ups and the store of one file are all that is taken.
+        with showing(place, "--history", 4) as kernel:
+            judged = Judged(kernel, model)
+            judged.ask(STARTS)
+            stored, unstored = [number_in(judged.ask(spelled("lookup", 5, ROOT, file))) for file in (b"file", b"run")]
+            judged.ask(writing(stored, b"new"))
+            check(f"unstored, {name}: the write", len(kernel.asked(writing(unstored, b"lost"))) > ANSWER.size, True)
+            check(f"unstored, {name}: the end", ended(kernel), (4, lines + b"mountd: store EIO\n"))
+        model.end()
+        check_closed(f"unstored, {name}", place, commit, WholeTree(found(model.tree.nodes)))
+
+
+def lost(kernel: Kernel) -> tuple[int | str, bytes]:
+    """What the loss of its socket makes of it, in which there is an answer that nobody took: a message that can't be
+    received."""
+    kernel.send(spelled("statfs", 5, ROOT))
+    select.select([kernel.ours], [], [], PATIENCE)
+    kernel.ours.close()
+    return kernel.end()
 
 
 def listed(judged: Judged) -> bytes:

@@ -1,18 +1,16 @@
 -- The passes of a folder after its session: there is one of each number still, and of the same mount.
-use Rattle.std.proofs.Common.{◌≡◌, ℕ, zero, suc, List, [], ◌∷◌, ◌++◌, length, map, Some, None, Result, refl, sym, ap, ◌∙◌}
+use Rattle.std.proofs.Common.{◌≡◌, ℕ, zero, suc, List, [], ◌∷◌, ◌++◌, length, map, Option, Some, None, Result, refl, sym, ap, ◌∙◌}
 use Rattle.std.specs.Prelude.{⊤, slice_get}
 use Rattle.eden_model.specs.Numbers.{Numbers}
 use Rattle.eden_model.specs.Trees.{Tree}
 use Rattle.eden_shared.specs.declared.account.Terms.{Terms}
 use Rattle.eden_shared.specs.Passes.{AreEach, Carried}
-use Rattle.eden_fuse_format.specs.declared.message.Header.{Header}
-use Rattle.eden_fuse_format.specs.Asked.{Asked}
 use Rattle.eden_fuse_session.specs.declared.receiver.Receiver.{Ghosts as Receiver}
 use Rattle.eden_fuse_session.specs.declared.sender.Sender.{Ghosts as Sender}
 use Rattle.eden_fuse_session.specs.declared.serving.SessionFault.{SessionFault}
-use Rattle.eden_fuse_session.specs.Turns.{Told}
 use Rattle.eden_fuse_shown.specs.declared.manner.Manner.{Manner}
-use Rattle.eden_fuse_host.specs.Hands.{HaveAttended, IsServed}
+use Rattle.eden_fuse_host.specs.Hands.{HaveAttended, IsServed, Turning}
+use Rattle.eden_fuse_host.specs.Lines.{Coming}
 use Rattle.eden_fuse_host.specs.Turns.{IsTurn, beginning}
 
 -- whose pass it is
@@ -22,8 +20,8 @@ seat p = (p.terms, p.number)
 abbrev seats : List Carried → List (Terms × ℕ)
 seats ps = map seat ps
 
-module _ {V O : Type 0} (v : Receiver V) (o : Sender O) (Turns : Header → Asked → Told → Type 0) where
-  attended_seats : (ps ps' : List Carried) (told : Result ⊤ SessionFault) → HaveAttended v o Turns ps ps' told → seats ps' ≡ seats ps
+module _ {V O : Type 0} (v : Receiver V) (o : Sender O) (Comes : Coming) (Turns : Turning) where
+  attended_seats : (ps ps' : List Carried) (told : Result ⊤ SessionFault) → HaveAttended v o Comes Turns ps ps' told → seats ps' ≡ seats ps
   attended_seats [] [] told h = refl
   attended_seats [] (p' ∷ ps') told h = absurd h
   attended_seats (p ∷ ps) [] told h = absurd h
@@ -35,13 +33,13 @@ seats_behind : (ps : List Carried) (p : Carried) → seats (ps ++ p ∷ []) ≡ 
 seats_behind [] p = refl
 seats_behind (q ∷ ps) p = ap (λ (l : List (Terms × ℕ)). seat q ∷ l) (seats_behind ps p)
 
-module _ {V O : Type 0} (v : Receiver V) (o : Sender O) (honest : Type 0) (opening : Tree) (N : Numbers) (m : Manner) where
-  pub served_seats : (ps ps' : List Carried) (said : Result ⊤ SessionFault) → IsServed v o honest opening N m ps ps' said → seats ps' ≡ seats ps
-  served_seats ps ps' said s =
+module _ {V O : Type 0} (v : Receiver V) (o : Sender O) (Comes : Coming) (honest : Type 0) (opening : Tree) (N : Numbers) (m : Manner) where
+  pub served_seats : (ps ps' : List Carried) (said : Result ⊤ SessionFault) (why : Option ℕ) → IsServed v o Comes honest opening N m ps ps' said why → seats ps' ≡ seats ps
+  served_seats ps ps' said why s =
       let number : s.pass'.number ≡ s.pass.number = s.shown.seat.0 in
       let terms : s.pass'.terms ≡ s.pass.terms = s.shown.seat.1 in
       let same : seat s.pass' ≡ seat s.pass = cc (number, terms) in
-      let hands = attended_seats v o (IsTurn honest opening N (beginning s.pass m ∷ [])) s.hands s.hands' said s.attended in
+      let hands = attended_seats v o Comes (IsTurn honest opening N (beginning s.pass m ∷ [])) s.hands s.hands' said s.attended in
       ap seats s.after ∙ seats_behind s.hands' s.pass' ∙ ap (λ (l : List (Terms × ℕ)). l ++ seat s.pass' ∷ []) hands
       ∙ ap (λ (x : Terms × ℕ). seats s.hands ++ x ∷ []) same ∙ sym (seats_behind s.hands s.pass) ∙ ap seats (sym s.before)
 

@@ -1,3 +1,4 @@
 pub mod LookedOn
 pub mod Running
+pub mod Heeding
 pub mod Gathering

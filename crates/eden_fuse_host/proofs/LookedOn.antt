@@ -2,6 +2,9 @@
 use Rattle.std.proofs.Common.{◌≡◌, ℕ, List, [], ◌∷◌, ◌++◌, sym, ap, ◌∙◌, append_assoc, append-nil}
 use Rattle.std.specs.Prelude.{⊤, Result}
 use Rattle.std.specs.List.{AllByRecursion}
+use Rattle.eden_model.specs.declared.fault.Fault.{Fault as Cause}
+use Rattle.eden_model.specs.declared.reply.Reply.{Reply}
+use Rattle.eden_model.specs.declared.reply.Reply.TheVariants.{Fault}
 use Rattle.eden_model.specs.declared.request.Request.{Request}
 use Rattle.eden_model.specs.Numbers.{Numbers}
 use Rattle.eden_model.specs.Trees.{Tree}
@@ -9,20 +12,18 @@ use Rattle.eden_shared.specs.declared.account.Told.{Told}
 use Rattle.eden_shared.specs.Accounts.{told}
 use Rattle.eden_shared.specs.Calls.{Grows}
 use Rattle.eden_shared.specs.Passes.{Carried}
-use Rattle.eden_fuse_format.specs.declared.message.Header.{Header}
 use Rattle.eden_fuse_format.specs.declared.message.Message.{Message}
 use Rattle.eden_fuse_format.specs.declared.message.Message.TheVariants as message
-use Rattle.eden_fuse_format.specs.Asked.{Asked}
 use Rattle.eden_fuse_session.specs.declared.receiver.Receiver.{Ghosts as Receiver}
 use Rattle.eden_fuse_session.specs.declared.sender.Sender.{Ghosts as Sender}
 use Rattle.eden_fuse_session.specs.declared.serving.SessionFault.{SessionFault}
 use Rattle.eden_fuse_session.specs.declared.turning.Turned.{Turned}
 use Rattle.eden_fuse_session.specs.Turns.{Does, Line}
-use Rattle.eden_fuse_session.specs.Turns.{Told as Answer}
 use Rattle.eden_fuse_session.specs.Sessions.{Serves, Serving, Session, answer_room}
 use Rattle.eden_fuse_shown.specs.Looking.{ChangesNothing}
-use Rattle.eden_fuse_host.specs.Hands.{HandAnswers, IsAttended, taken_by}
-use Rattle.eden_fuse_host.specs.Passing.{HasLooked}
+use Rattle.eden_fuse_host.specs.Hands.{HandAnswers, IsAttended, Turning, taken_by}
+use Rattle.eden_fuse_host.specs.Lines.{Coming, IsUnused}
+use Rattle.eden_fuse_host.specs.Passing.{HasLooked, HasMetFault}
 
 abbrev IsQuiet : Told → Type 0
 IsQuiet t = ChangesNothing t.request
@@ -45,6 +46,12 @@ looked_once honest opening N p p' q quiet grown = record {
   change_nothing = (quiet, tt);
 }
 
+-- .. and it met a fault
+pub met_once : (honest : Type 0) (opening : Tree) (N : Numbers) (p p' : Carried) (q : Request) (why : Cause) (grown : Grows honest opening N p q p') → grown.reply ≡ Fault why
+    → HasMetFault p p'
+met_once honest opening N p p' q why grown is =
+    (grown.number, q, why, ap (λ (x : Carried). x.told) grown.is ∙ ap (λ (r : Reply). p.told ++ told grown.number q r ∷ []) is)
+
 all_quiet : (ts us : List Told) → AllByRecursion IsQuiet ts → AllByRecursion IsQuiet us → AllByRecursion IsQuiet (ts ++ us)
 all_quiet [] us a b = b
 all_quiet (t ∷ ts) us a b = (a.0, all_quiet ts us a.1 b)
@@ -58,9 +65,9 @@ looked_on p q r a b = record {
   change_nothing = all_quiet a.looks b.looks a.change_nothing b.change_nothing;
 }
 
-module _ (Turns : Header → Asked → Answer → Type 0) where
+module _ (Turns : Turning) where
   looked_for : (m : Message) (p p' : Carried) (old new : Line) (room : ℕ) (r : Turned) → Does (HandAnswers Turns) m p p' old new room r → HasLooked p p'
-  looked_for (message.Request header operation) p p' old new room r does = does.1.0
+  looked_for (message.Request header operation) p p' old new room r does = does.1.looked
   looked_for (message.Unknown unique) p p' old new room r does = looked_same p p' does.0
   looked_for (message.Malformed unique) p p' old new room r does = looked_same p p' does.0
   looked_for message.Unframed p p' old new room r does = looked_same p p' does.0
@@ -72,14 +79,16 @@ module _ (Turns : Header → Asked → Answer → Type 0) where
       looked_on s.0 u.0 t.0 (looked_for is s.0 u.0 s.1 u.1 answer_room r does) (looked_through ms u t rest)
 
 -- a thread's session
-module _ {V O : Type 0} (v : Receiver V) (o : Sender O) (Turns : Header → Asked → Answer → Type 0) where
-  pub attended : (p p' : Carried) (receiver left : V) (sender sent : O) (said : Result ⊤ SessionFault)
-      → Session (HandAnswers Turns) (p, taken_by o sender) (p', taken_by o sent) (v.waiting receiver) (v.waiting left) said → IsAttended v o Turns p p' said
-  attended p p' receiver left sender sent said s = record {
+module _ {V O : Type 0} (v : Receiver V) (o : Sender O) (Comes : Coming) (Turns : Turning) where
+  pub attended : (p p' : Carried) (receiver left : V) (sender sent : O) (said : Result ⊤ SessionFault) → Comes (v.waiting receiver) → IsUnused (taken_by o sender)
+      → Session (HandAnswers Turns) (p, taken_by o sender) (p', taken_by o sent) (v.waiting receiver) (v.waiting left) said → IsAttended v o Comes Turns p p' said
+  attended p p' receiver left sender sent said whole unused s = record {
     receiver = receiver;
     left = left;
     sender = sender;
     sent = sent;
+    whole = whole;
+    unused = unused;
     session = s;
     looked = looked_through Turns s.messages (p, taken_by o sender) (p', taken_by o sent) s.served;
   }

@@ -1,5 +1,5 @@
 -- Turns in the order of a lock.
-use Rattle.std.proofs.Common.{◌≡◌, List, [], ◌∷◌, ◌++◌, refl, sym, ◌∙◌, subst}
+use Rattle.std.proofs.Common.{◌≡◌, ℕ, Bool, List, [], ◌∷◌, ◌++◌, Option, refl, sym, ◌∙◌, subst}
 use Rattle.eden_model.specs.Numbers.{Numbers}
 use Rattle.eden_model.specs.Trees.{Tree}
 use Rattle.eden_shared.specs.Passes.{Carried}
@@ -30,8 +30,8 @@ seat_of begun b p is (c, is', seat) = subst (λ (x : Beginning). IsSameSeat x.pa
 
 module _ (honest : Type 0) (opening : Tree) (N : Numbers) where
   exchanges_more : (xs : List Exchange) (x : Exchange) (s t u : Showing Carried) → Exchanges honest opening N xs s t
-      → Heeds honest opening N t x.header x.asked x.told u → Exchanges honest opening N (xs ++ x ∷ []) s u
-  exchanges_more [] x s t u same more = (u, subst (λ (y : Showing Carried). Heeds honest opening N y x.header x.asked x.told u) (sym same) more, refl)
+      → Heeds honest opening N x.faulted t x.header x.asked x.told u → Exchanges honest opening N (xs ++ x ∷ []) s u
+  exchanges_more [] x s t u same more = (u, subst (λ (y : Showing Carried). Heeds honest opening N x.faulted y x.header x.asked x.told u) (sym same) more, refl)
   exchanges_more (y ∷ xs) x s t u (mid, first, rest) more = (mid, first, exchanges_more xs x mid t u rest more)
 
   -- a folder that has just begun
@@ -41,9 +41,9 @@ module _ (honest : Type 0) (opening : Tree) (N : Numbers) where
       (beginning p m, is, record { begun = shown; mount = mount; manner = manner; blank = blank; exchanges = []; run = refl })
 
   -- .. and of which one more request had its turn
-  pub runs_on : (begun : List Beginning) (now next : Showing Carried) (h : Header) (a : Asked) (t : Told)
-      → IsRunFrom honest opening N begun now → Heeds honest opening N now h a t next → IsRunFrom honest opening N begun next
-  runs_on begun now next h a t (b, is, run) more = (
+  pub runs_on : (begun : List Beginning) (now next : Showing Carried) (faulted : Bool) (h : Header) (a : Asked) (t : Told)
+      → IsRunFrom honest opening N begun now → Heeds honest opening N faulted now h a t next → IsRunFrom honest opening N begun next
+  runs_on begun now next faulted h a t (b, is, run) more = (
     b,
     is,
     record {
@@ -51,17 +51,18 @@ module _ (honest : Type 0) (opening : Tree) (N : Numbers) where
       mount = run.mount;
       manner = run.manner;
       blank = run.blank;
-      exchanges = run.exchanges ++ record { header = h; asked = a; told = t } ∷ [];
-      run = exchanges_more run.exchanges (record { header = h; asked = a; told = t }) run.begun now next run.run more;
+      exchanges = run.exchanges ++ record { header = h; asked = a; faulted = faulted; told = t } ∷ [];
+      run = exchanges_more run.exchanges (record { header = h; asked = a; faulted = faulted; told = t }) run.begun now next run.run more;
     },
   )
 
   -- .. and which ended
-  pub ends : (begun : List Beginning) (b : Beginning) (now : Showing Carried) (p p' : Carried) → begun ≡ b ∷ [] → IsRunFrom honest opening N begun now
-      → StoresAll (PassAnswers honest opening N) now.nodes now.waits now.mount p → p' ≡ p → IsOf begun p' → IsShown honest opening N b p'
-  ends begun b now p p' is (c, is', run) stored same seat = record {
+  pub ends : (begun : List Beginning) (b : Beginning) (now : Showing Carried) (why : Option ℕ) (p p' : Carried) → begun ≡ b ∷ []
+      → IsRunFrom honest opening N begun now → StoresAll (PassAnswers honest opening N) now.nodes now.waits now.mount why p → p' ≡ p → IsOf begun p'
+      → IsShown honest opening N b why p'
+  ends begun b now why p p' is (c, is', run) stored same seat = record {
     ended = now;
     run = subst (λ (x : Beginning). IsRun honest opening N x now) (same_one c b begun is' is) run;
-    stored = subst (λ (x : Carried). StoresAll (PassAnswers honest opening N) now.nodes now.waits now.mount x) (sym same) stored;
+    stored = subst (λ (x : Carried). StoresAll (PassAnswers honest opening N) now.nodes now.waits now.mount why x) (sym same) stored;
     seat = seat_of begun b p' is seat;
   }

@@ -1,3 +1,5 @@
+pub mod Lines
+pub mod Wants
 pub mod Passing
 pub mod Turns
 pub mod Hands

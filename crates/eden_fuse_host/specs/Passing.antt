@@ -1,13 +1,16 @@
 -- What a shared mount says through a pass, and a pass with which looks alone were made.
-use Rattle.std.specs.Prelude.{◌≡◌, ◌++◌, Bool, List, Result, Ok, Err}
+use Rattle.std.specs.Prelude.{◌≡◌, ◌++◌, ℕ, Bool, List, [], ◌∷◌, Result, Ok, Err}
 use Rattle.std.specs.List.{AllByRecursion}
 use Rattle.eden_model.specs.declared.fault.CallFault.{CallFault}
+use Rattle.eden_model.specs.declared.fault.Fault.{Fault as Cause}
 use Rattle.eden_model.specs.declared.request.Request.{Request}
 use Rattle.eden_model.specs.declared.reply.Reply.{Reply}
+use Rattle.eden_model.specs.declared.reply.Reply.TheVariants.{Fault}
 use Rattle.eden_model.specs.Numbers.{Numbers}
 use Rattle.eden_model.specs.Trees.{Tree}
 use Rattle.eden_shared.specs.declared.account.Told.{Told}
 use Rattle.eden_shared.specs.declared.lanes.Answered.{Answered}
+use Rattle.eden_shared.specs.Accounts.{told}
 use Rattle.eden_shared.specs.Calls.{Gives, IsLawful}
 use Rattle.eden_shared.specs.Passes.{Carried}
 use Rattle.eden_fuse_shown.specs.Looking.{ChangesNothing}
@@ -32,3 +35,7 @@ pub record HasLooked (p p' : Carried) : Type 0 where
   pub looks : List Told
   pub told : p'.told ≡ p.told ++ looks
   pub change_nothing : AllByRecursion (λ (t : Told). ChangesNothing t.request) looks
+
+-- .. was told of one look since then, and its reply is a fault
+abbrev pub HasMetFault : Carried → Carried → Type 0
+HasMetFault p p' = (number : ℕ) × (look : Request) × (why : Cause) × (p'.told ≡ p.told ++ told number look (Fault why) ∷ [])

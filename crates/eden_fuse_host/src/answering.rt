@@ -1,8 +1,7 @@
 // A folder under its lock, as its threads see it.
-ghost use Rattle.eden_fuse_format.specs.declared.message.Header.{Header};
-ghost use Rattle.eden_fuse_format.specs.Asked.{Asked, seen};
-ghost use Rattle.eden_fuse_session.specs.Turns.{IsBriefly, Told, told};
-ghost use Rattle.eden_fuse_host.specs.Hands.{Takes};
+ghost use Rattle.eden_fuse_format.specs.Asked.{seen};
+ghost use Rattle.eden_fuse_session.specs.Turns.{IsBriefly, told};
+ghost use Rattle.eden_fuse_host.specs.Hands.{Takes, Turning};
 
 use crate::asking::Asking;
 use crate::begun::Begun;
@@ -17,8 +16,8 @@ use std::sync::{Mutex, Wait};
 
 /// What several threads hand requests in to.
 pub(crate) trait Answering {
-    /// A request was answered so in its turn.
-    ghost turns: { Header → Asked → Told → Type 0 };
+    /// A request, the look before which met a fault or didn't, was answered so in its turn.
+    ghost turns: { Turning };
 
     /// Answers a request, or says which look goes before its turn.
     fn take<R: Wait>(
@@ -28,7 +27,7 @@ pub(crate) trait Answering {
         operation: Operation<'_>,
         room: &mut Vec<u8>,
     ) -> Taken
-        ensures { Takes (turns header (seen operation.entry)) result room.new.items };
+        ensures { Takes (λ faulted. turns faulted header (seen operation.entry)) result room.new.items };
 
     /// Answers a request, whose look met a fault or didn't.
     fn answer<R: Wait>(
@@ -39,7 +38,7 @@ pub(crate) trait Answering {
         faulted: bool,
         room: &mut Vec<u8>,
     ) -> Said
-        ensures turn { turns header (seen operation.entry) (told result room.new.items) }
+        ensures turn { turns faulted header (seen operation.entry) (told result room.new.items) }
         ensures brief { IsBriefly result room.new.items };
 }
 

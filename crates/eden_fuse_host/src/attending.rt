@@ -31,13 +31,16 @@ pub(crate) struct Attended<J: Naming> {
 
 /// That a thread answers messages with a pass.
 #[derive(Drop)]
-struct Attends<J: Naming, V: Receiver, O: Sender, D: Answering> {
+struct Attends<J: Naming, V: Receiver, O: Sender, D: Answering, G: Lines<V, O>> {
     pass: Snapshot<Pass<J>>,
+    lines: Snapshot<G>,
     of: PhantomData<(V, O, D)>,
 }
 
-impl<J: Naming, V: Receiver, O: Sender, D: Answering> Promise<Attended<J>> for Attends<J, V, O, D> {
-    ghost kept_by = { λ s a. IsAttended V.Receiver O.Sender D.turns s.pass.value a.pass a.said };
+impl<J: Naming, V: Receiver, O: Sender, D: Answering, G: Lines<V, O>> Promise<Attended<J>>
+    for Attends<J, V, O, D, G> {
+    ghost kept_by = { λ s a. IsAttended V.Receiver O.Sender (G.comes s.lines.value) D.turns s.pass.value
+        a.pass a.said };
 }
 
 /// Answers one message after another from a line of this thread, and looks with that pass, until no more come.
@@ -52,7 +55,7 @@ fn attend<
     G: Lines<V, O>,
     R: Wait,
 >(rt: &R, alloc: Global, shared: &C, folder: &D, lines: &G, pass: Pass<J>, source: S) -> Attended<J>
-    ensures { IsAttended V.Receiver O.Sender D.turns pass result.pass result.said }
+    ensures { IsAttended V.Receiver O.Sender (G.comes lines.now) D.turns pass result.pass result.said }
 {
     let (mut receiver, mut sender) = lines.line();
     let mut hand = Hand::<W, J, C, S, D, R>::new(rt, alloc, shared, folder, pass, source);
@@ -85,16 +88,17 @@ fn begin<
     lines: &'s G,
     pass: Pass<J>,
     source: S,
-) -> Result<PromisedHandle<Attended<J>, Attends<J, V, O, D>>, Attended<J>>
-    ensures ok { IfOk result (λ h. h.promise.pass.value ≡ pass) }
-    ensures err { IfErr result (λ a. IsAttended V.Receiver O.Sender D.turns pass a.pass a.said) }
+) -> Result<PromisedHandle<Attended<J>, Attends<J, V, O, D, G>>, Attended<J>>
+    ensures ok { IfOk result (λ h. (h.promise.pass.value ≡ pass) × (h.promise.lines.value ≡ lines.now)) }
+    ensures err { IfErr result (λ a. IsAttended V.Receiver O.Sender (G.comes lines.now) D.turns pass a.pass a.said) }
 {
     let attends = Attends {
         pass: Snapshot::of(&pass),
+        lines: Snapshot::of(lines),
         of: PhantomData,
     };
     let attend_here = move || -> Attended<J>
-        ensures { IsAttended V.Receiver O.Sender D.turns pass result.pass result.said }
+        ensures { IsAttended V.Receiver O.Sender (G.comes lines.entry.now) D.turns pass result.pass result.said }
     { attend::<W, J, C, S, D, V, O, G, R>(rt, alloc, shared, folder, lines, pass, source) };
     match Stack::new()
         .stack_size(STACK)
@@ -143,7 +147,7 @@ fn attend_each<
     sources: Vec<S>,
 ) -> (Vec<Pass<J>>, Result<(), SessionFault>)
     requires sources { length passes.items ≤ length sources.items }
-    ensures passes { HaveAttended V.Receiver O.Sender D.turns passes.items result.0.items result.1 }
+    ensures passes { HaveAttended V.Receiver O.Sender (G.comes lines.now) D.turns passes.items result.0.items result.1 }
     ensures len { vec_len result.0 ≡ vec_len passes }
     ensures room { vec_capacity passes ≤ vec_capacity result.0 }
 {
@@ -193,7 +197,7 @@ pub(crate) fn attend_all<
     sources: Vec<S>,
 ) -> (Vec<Pass<J>>, Result<(), SessionFault>)
     requires sources { length passes.items ≤ length sources.items }
-    ensures passes { HaveAttended V.Receiver O.Sender D.turns passes.items result.0.items result.1 }
+    ensures passes { HaveAttended V.Receiver O.Sender (G.comes lines.now) D.turns passes.items result.0.items result.1 }
     ensures len { vec_len result.0 ≡ vec_len passes }
     ensures room { vec_capacity passes ≤ vec_capacity result.0 }
 {
@@ -203,8 +207,9 @@ pub(crate) fn attend_all<
         move |scope| -> (Vec<Pass<J>>, Result<(), SessionFault>)
             requires { IsSend W.row × IsSend J.row × IsSync C.row × IsSend S.row × IsSync D.row × IsSend V.row
                 × IsSend O.row × IsSync G.row × IsSync R.row × (length passes.items ≤ length sources.items) }
-            ensures { HaveAttended V.Receiver O.Sender D.turns passes.items result.0.items result.1
-                × (vec_len result.0 ≡ vec_len passes) × (vec_capacity passes ≤ vec_capacity result.0) }
+            ensures { HaveAttended V.Receiver O.Sender (G.comes lines.entry.now) D.turns passes.items
+                result.0.items result.1 × (vec_len result.0 ≡ vec_len passes)
+                × (vec_capacity passes ≤ vec_capacity result.0) }
         {
             attend_each::<_, W, J, C, S, D, V, O, G, R>(
                 scope, rt, alloc, shared, folder, lines, passes, sources,

@@ -1,7 +1,7 @@
 // One thread's hand on a folder.
-ghost use Rattle.std.specs.Prelude.{◌≡◌};
+ghost use Rattle.std.specs.Prelude.{◌≡◌, true};
 ghost use Rattle.eden_fuse_shown.specs.Looking.{ChangesNothing};
-ghost use Rattle.eden_fuse_host.specs.Passing.{HasLooked};
+ghost use Rattle.eden_fuse_host.specs.Passing.{HasLooked, HasMetFault};
 
 use crate::answering::Answering;
 use crate::asking::Asking;
@@ -101,7 +101,8 @@ impl<'a, W: World, J: Naming, C: Asking<W, J>, S: Source<W> + Drop, D: Answering
     /// Makes a look, and waits for what it needs. Whether it met a fault.
     fn look(&mut self, request: Request) -> bool
         requires { ChangesNothing request }
-        ensures { HasLooked self.old self.new }
+        ensures looked { HasLooked self.old self.new }
+        ensures met { result ≡ true → HasMetFault self.old self.new }
     {
         match self
             .shared

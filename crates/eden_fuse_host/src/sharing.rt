@@ -31,6 +31,8 @@ pub struct FolderTable<T> {
     pub table: T,
     /// The first fault of a thread's session.
     pub said: Result<(), SessionFault>,
+    /// The number of the first error that a store met after the sessions; None if all that waited was stored.
+    pub unstored: Option<u32>,
 }
 
 /// Shows a shared mount by its passes, none of which was told anything.
@@ -63,9 +65,9 @@ where
     requires sources { length passes.items ≤ length sources.items }
     requires each { AreEach passes.items (length J.names) }
     ensures { (terms : declared.Terms) → passes.items ≡ newcomers terms 1 terms.passes
-        → ShowsTable V.Receiver O.Sender T.table W.honest W.opening W.numbers terms manner result }
+        → ShowsTable V.Receiver O.Sender (G.comes lines.now) T.table W.honest W.opening W.numbers terms manner result }
 {
-    let (passes, said) = show_by::<W, J, Shared<W, T, A, J, H>, S, V, O, G, K, R>(
+    let (passes, said, unstored) = show_by::<W, J, Shared<W, T, A, J, H>, S, V, O, G, K, R>(
         rt, alloc, &shared, lines, passes, sources, manner, times, clock,
     );
     match shared.finish(passes) {
@@ -73,15 +75,19 @@ where
         Ok(mount) => {
             mount.holds();
             let table = mount.into_table();
-            FolderTable { table, said }
+            FolderTable {
+                table,
+                said,
+                unstored,
+            }
         }
     }
 }
 
 /// Shows a mount of that room over a table that shows the opening tree, and numbers that back the opening ones, by a
-/// thread for each of its passes but one, until no more messages come. Each thread has a line and a source of its own,
-/// and one source is for turns whose objects went again. The only error is want of memory to share the mount, before a
-/// line is asked for: the table comes back.
+/// thread for each of its passes but one, until no more messages come; then all that waits is stored. Each thread has a
+/// line and a source of its own, and one source is for turns whose objects went again. The only error is want of memory
+/// to share the mount, before a line is asked for: the table comes back.
 pub fn share_folder<
     W: World + Send,
     T: Attempts<W> + Send + Drop,
@@ -116,7 +122,7 @@ where
     requires ties { AreTied ties.lanes.items ties.ends.items room.queue.passes }
     requires names { names_of ties.lanes.items ≡ J.names }
     requires sources { room.queue.passes ≤ length sources.items }
-    ensures shown { IfOk result (ShowsTable V.Receiver O.Sender T.table W.honest W.opening W.numbers
+    ensures shown { IfOk result (ShowsTable V.Receiver O.Sender (G.comes lines.now) T.table W.honest W.opening W.numbers
         (terms_at T.table room (H.limit history) table) manner) }
     ensures err { IfErr result (λ t. t ≡ table) }
 {

@@ -22,7 +22,7 @@ use std::sync::{Mutex, Wait};
 use std::thread::Threads;
 
 /// Shows a folder by one pass for its turns, and a thread for each of the others, until no more messages come; then all
-/// that waits is stored.
+/// that waits is stored, or the number of the first error told.
 fn show<
     B: Begun + Send,
     W: World + Send,
@@ -46,12 +46,12 @@ fn show<
     manner: Manner,
     times: Times,
     clock: K,
-) -> (Vec<Pass<J>>, Pass<J>, Result<(), SessionFault>)
+) -> (Vec<Pass<J>>, Pass<J>, Result<(), SessionFault>, Option<u32>)
     requires begun { B.begun ≡ beginning pass manner ∷ [] }
     requires sources { length passes.items ≤ length sources.items }
-    ensures attended { HaveAttended V.Receiver O.Sender (IsTurn W.honest W.opening W.numbers B.begun) passes.items
-        result.0.items result.2 }
-    ensures shown { IsShown W.honest W.opening W.numbers (beginning pass manner) result.1 }
+    ensures attended { HaveAttended V.Receiver O.Sender (G.comes lines.now)
+        (IsTurn W.honest W.opening W.numbers B.begun) passes.items result.0.items result.2 }
+    ensures shown { IsShown W.honest W.opening W.numbers (beginning pass manner) result.3 result.1 }
     ensures len { vec_len result.0 ≡ vec_len passes }
     ensures room { vec_capacity passes ≤ vec_capacity result.0 }
 {
@@ -63,8 +63,8 @@ fn show<
         rt, alloc, shared, &counter, lines, passes, sources,
     );
     let Counter { lock } = counter;
-    let mount = lock.into_inner().into_shown().into_mount();
-    (passes, mount.into_pass(), said)
+    let (mount, unstored) = lock.into_inner().into_shown().into_mount();
+    (passes, mount.into_pass(), said, unstored)
 }
 
 /// Shows a folder by the last of these passes, and a thread for each of the others. Each has a source of its own.
@@ -88,11 +88,11 @@ pub(crate) fn show_by<
     manner: Manner,
     times: Times,
     clock: K,
-) -> (Vec<Pass<J>>, Result<(), SessionFault>)
+) -> (Vec<Pass<J>>, Result<(), SessionFault>, Option<u32>)
     requires some { 1 ≤ length passes.items }
     requires sources { length passes.items ≤ length sources.items }
-    ensures { IsServed V.Receiver O.Sender W.honest W.opening W.numbers manner passes.items result.0.items
-        result.1 }
+    ensures { IsServed V.Receiver O.Sender (G.comes lines.now) W.honest W.opening W.numbers manner passes.items
+        result.0.items result.1 result.2 }
 {
     let (mut passes, mut sources) = (passes, sources);
     let Some(pass) = passes.pop() else {
@@ -101,11 +101,11 @@ pub(crate) fn show_by<
     let Some(source) = sources.pop() else {
         unreachable!()
     };
-    let (mut passes, pass, said) = show::<Brand, W, J, C, S, V, O, G, K, R>(
+    let (mut passes, pass, said, unstored) = show::<Brand, W, J, C, S, V, O, G, K, R>(
         rt, alloc, shared, lines, pass, source, passes, sources, manner, times, clock,
     );
     let Ok(()) = passes.push(pass) else {
         unreachable!()
     };
-    (passes, said)
+    (passes, said, unstored)
 }

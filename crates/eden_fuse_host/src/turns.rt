@@ -4,6 +4,7 @@ ghost use Rattle.eden_fuse_format.specs.Asked.{seen};
 ghost use Rattle.eden_fuse_session.specs.Turns.{IsBriefly, told};
 ghost use Rattle.eden_fuse_host.specs.Hands.{Takes};
 ghost use Rattle.eden_fuse_host.specs.Turns.{IsRunFrom, IsTurn};
+ghost use Rattle.eden_fuse_host.specs.Wants.{is_interruption, needs_its_look};
 
 use crate::asking::Asking;
 use crate::begun::Begun;
@@ -73,10 +74,35 @@ fn may_need_objects(operation: &Operation<'_>) -> bool {
 }
 
 /// Whether a request can't be done without what its look needs. A write, and what cuts a file, may need no content.
-fn needs_its_look(operation: &Operation<'_>) -> bool {
+fn needs_its_look(operation: &Operation<'_>) -> bool
+    ensures { result ≡ needs_its_look (seen operation.now) }
+{
     match operation {
-        Operation::Write(_, _) | Operation::SetAttr(_) => false,
-        _ => true,
+        Operation::Lookup(_)
+        | Operation::GetAttr(_)
+        | Operation::ReadLink
+        | Operation::Symlink(_, _)
+        | Operation::MkNod(_, _)
+        | Operation::MkDir(_, _)
+        | Operation::Unlink(_)
+        | Operation::RmDir(_)
+        | Operation::Rename(_, _, _)
+        | Operation::Rename2(_, _, _)
+        | Operation::Read(_)
+        | Operation::ReadDir(_)
+        | Operation::Create(_, _)
+        | Operation::Fallocate(_) => true,
+        _ => false,
+    }
+}
+
+/// Whether a request asks for nothing but to interrupt another. It has no answer, for want of memory either.
+fn is_interruption(operation: &Operation<'_>) -> bool
+    ensures { result ≡ is_interruption (seen operation.now) }
+{
+    match operation {
+        Operation::Interrupt(_) => true,
+        _ => false,
     }
 }
 
@@ -113,7 +139,8 @@ impl<
         let _ = &self.shown;
     }
 
-    /// Answers a request, whose look met a fault or didn't.
+    /// Answers a request, whose look met a fault or didn't. One that can't be done without its look is refused if that
+    /// met a fault.
     pub(crate) fn answer(
         &mut self,
         header: Header,
@@ -121,13 +148,17 @@ impl<
         faulted: bool,
         room: &mut Vec<u8>,
     ) -> Said
-        ensures turn { IsTurn W.honest W.opening W.numbers B.begun header (seen operation.entry)
+        ensures turn { IsTurn W.honest W.opening W.numbers B.begun faulted header (seen operation.entry)
             (told result room.new.items) }
         ensures brief { IsBriefly result room.new.items }
     {
         if faulted && needs_its_look(&operation) {
             self.holds();
             return Said::Answers(Answer::Refused(EIO));
+        }
+        if is_interruption(&operation) {
+            self.holds();
+            return Said::Nothing;
         }
         self.shown.call(header, operation, room)
     }
@@ -139,8 +170,8 @@ impl<
         operation: Operation<'_>,
         room: &mut Vec<u8>,
     ) -> Taken
-        ensures { Takes (IsTurn W.honest W.opening W.numbers B.begun header (seen operation.entry)) result
-            room.new.items }
+        ensures { Takes (λ faulted. IsTurn W.honest W.opening W.numbers B.begun faulted header (seen operation.entry))
+            result room.new.items }
     {
         if may_need_objects(&operation) {
             if let Some(request) = self.shown.looks_for(header.nodeid, &operation) {

@@ -19,8 +19,10 @@ module _ {W F : Type 0} (w : Ghosts W) (f : Files F W) where
   -- the first fault of a served folder is none of the opening
   module _ {S : Type 0} (fetched : S → Id → Answer → S → Type 0) (copies : Bool) (limit : ℕ) (base : Base) (settings : Settings) (backing : Backing F S) (m : Manner)
       (line line' : Line) (waiting unread : Known) (left : FolderEnding F S) where
-    pub lived : (said : Result (Unit {0}) SessionFault) (o : Option FilesFault) → IsShown w f fetched copies limit base settings backing m line line' waiting unread left
-        → LivesFolderBy w f fetched copies limit (first_fault said o) base settings backing m line line' waiting unread left
-    lived (Err e) o h = h
-    lived (Ok v) (Some e) h = h
-    lived (Ok v) None h = h
+    pub lived : (said : Result (Unit {0}) SessionFault) (unstored : Option ℕ) (o : Option FilesFault)
+        → IsShown w f fetched copies limit base settings backing m line line' waiting unread left
+        → LivesFolderBy w f fetched copies limit (first_fault said unstored o) base settings backing m line line' waiting unread left
+    lived (Err e) unstored o h = h
+    lived (Ok v) (Some errno) o h = h
+    lived (Ok v) None (Some e) h = h
+    lived (Ok v) None None h = h

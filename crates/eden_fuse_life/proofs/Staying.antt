@@ -1,11 +1,11 @@
 -- What a mount was opened with, through a session with the kernel.
-use Rattle.std.proofs.Common.{◌≡◌, ◌⊎◌, ℕ, zero, suc, Bool, true, false, List, [], ◌∷◌, Option, Some, None, Result, Ok, Err, inl, inr, sym, ap, subst}
+use Rattle.std.proofs.Common.{◌≡◌, ◌⊎◌, ℕ, zero, suc, Bool, true, false, List, [], ◌∷◌, Option, Some, None, Result, Ok, Err, ◌+◌, ◌++◌, inl, inr, refl, sym, ap, subst}
 use Rattle.std.specs.List.{slice_get}
 use Rattle.eden_model.specs.declared.fault.CallFault.{CallFault}
 use Rattle.eden_model.specs.declared.id.Id.{Id}
 use Rattle.eden_model.specs.declared.request.Request.{Request}
 use Rattle.eden_model.specs.declared.reply.Reply.{Reply}
-use Rattle.eden_model.specs.Trees.{Name}
+use Rattle.eden_model.specs.Trees.{Name, Path}
 use Rattle.eden_source.specs.Fetching.{Answer}
 use Rattle.eden_mount.specs.Tables.{Table}
 use Rattle.eden_mount.specs.Serving.{Desk, Stays, SyncsDesk}
@@ -32,10 +32,12 @@ use Rattle.eden_fuse_shown.specs.declared.sorts.Sort.TheVariants as sort
 use Rattle.eden_fuse_shown.specs.Listing.{Entry, page_of, last_at}
 use Rattle.eden_fuse_shown.specs.Naming.{is_reserved, last_name}
 use Rattle.eden_fuse_shown.specs.Opens.{opens_of, is_last}
-use Rattle.eden_fuse_shown.specs.Waiting.{Extent, extent_of, may_wait}
+use Rattle.eden_fuse_shown.specs.declared.extents.Gap.{Gap}
+use Rattle.eden_fuse_shown.specs.Reading.{AsksPart, Gathers, ReadsOn, reading}
+use Rattle.eden_fuse_shown.specs.Waiting.{Extent, extent_of, gap_of, may_wait}
 use Rattle.eden_fuse_shown.specs.Waiting.{Table as Waits}
 use Rattle.eden_fuse_shown.specs.Showing.{Showing, Runs, RunsFrom, Reads, RemovesBy, Restores, MovesOver, ReplacesBy, LetsGo, LetsGoLast, ClosesFile}
-use Rattle.eden_fuse_shown.specs.Showing.{storing, data_of, IsStored, SettlesWith, Unless, Once, LooksUp, WaitsIf, WritesAnew, Writes, Empties, StoresAll}
+use Rattle.eden_fuse_shown.specs.Showing.{storing, data_of, IsStored, SettlesWith, Unless, Once, LooksUp, WaitsIf, Finds, BridgesIf, BridgesElse, WritesAnew, WritesApart, Writes, Empties, StoresAll}
 use Rattle.eden_fuse_shown.specs.Showing.{ClearsIf, ClearsRow, ClearsRows, Clears, Starts, Heeds, Takes, rows_in, Shows, Syncs, ShowsBy, sort_of}
 use Rattle.eden_fuse_shown.specs.Showing.{Serves as ServesAs}
 
@@ -99,9 +101,31 @@ module _ {S : Type 0} (fetched : S → Id → Answer → S → Type 0) {T : Type
   settled_keeps None node old new why r = folder_same old new r.1
   settled_keeps (Some e) node old new why r = stored_keeps old node e old.mount new.mount why r.stored
 
-  stores_all_keep : (shown : Folder) (ws : Waits) (d h : Desk T S) → StoresAll answers shown.nodes ws d h → Kept d h
-  stores_all_keep shown [] d h same = kept_same d h same
-  stores_all_keep shown (w ∷ ws) d h (why, u, stored, rest) = kept_on d u h (stored_keeps shown w.0 w.1 d u why stored) (stores_all_keep shown ws u h rest)
+  stores_all_keep : (shown : Folder) (ws : Waits) (d h : Desk T S) (why : Option ℕ) → StoresAll answers shown.nodes ws d why h → Kept d h
+  stores_all_keep shown [] d h why (all, same) = kept_same d h same
+  stores_all_keep shown (w ∷ ws) d h why (one, others, u, stored, rest, is) =
+      kept_on d u h (stored_keeps shown w.0 w.1 d u one stored) (stores_all_keep shown ws u h others rest)
+
+  -- ---- what lies between is read
+
+  asks_keep : (p : Path) (from count : ℕ) (d e : Desk T S) (part : Option (List ℕ)) → AsksPart answers p from count d part e → Kept d e
+  asks_keep p from count d e part r = either (λ s. kept_same d e s.1) (λ s. leads_keep s.1.0 (reading p from count) d e s.0 s.1.1) r
+
+  reads_on_keep : (p : Path) (from : ℕ) (d : Desk T S) (n : ℕ) (bytes : List ℕ) (e : Desk T S) → ReadsOn answers p from d n bytes e → Kept d e
+  reads_on_keep p from d n bytes e ReadsOn.none = kept_same d e refl
+  reads_on_keep p from d n bytes e (ReadsOn.part done count front behind u v before asks) =
+      kept_on d u e (reads_on_keep p from d done front u before) (asks_keep p (from + done) count u e (Some behind) asks)
+
+  gathers_keep : (p : Path) (from count : ℕ) (d : Desk T S) (found : Option (List ℕ)) (e : Desk T S) → Gathers answers p from count d found e → Kept d e
+  gathers_keep p from count d (Some bytes) e r = reads_on_keep p from d count bytes e r
+  gathers_keep p from count d None e (done, more, front, part, u, before, rest) =
+      kept_on d u e (reads_on_keep p from d done front u before) (either (λ s. asks_keep p (from + done) more u e part s) (λ s. kept_same u e s) rest)
+
+  finds_keep : (gap : Option Gap) (shown : Folder) (node : ℕ) (d : Desk T S) (found : Option (List ℕ)) (e : Desk T S)
+      → Finds answers gap shown.nodes node d found e → Kept d e
+  finds_keep None shown node d found e r = kept_same d e r.1
+  finds_keep (Some gap) shown node d found e r =
+      either (λ s. kept_same d e s.1) (λ s. gathers_keep s.0 gap.from gap.len d found e s.2) r
 
   -- .. before anything else is done, which keeps it
   module _ (Done : Folder → Told → Folder → Type 0) (keeps : (old new : Folder) (t : Told) → Done old t new → Kept old.mount new.mount) where
@@ -119,6 +143,17 @@ module _ {S : Type 0} (fetched : S → Id → Answer → S → Type 0) {T : Type
     waits_if_keeps true node offset bytes old new t r = either (λ j. kept_same old.mount new.mount j.mount) (λ s. folder_same old new s.0) r
     waits_if_keeps false node offset bytes old new t r = keeps old new t r
 
+    bridges_if_keeps : (found : Option (List ℕ)) (node offset : ℕ) (bytes : List ℕ) (old new : Folder) (t : Told)
+        → BridgesIf answers found node offset bytes Done old t new → Kept old.mount new.mount
+    bridges_if_keeps None node offset bytes old new t r = keeps old new t r
+    bridges_if_keeps (Some between) node offset bytes old new t r = either (λ j. kept_same old.mount new.mount j.mount) (λ s. keeps old new t s) r
+
+    bridges_keep : (node offset : ℕ) (bytes : List ℕ) (old new : Folder) (t : Told) → BridgesElse answers node offset bytes Done old t new
+        → Kept old.mount new.mount
+    bridges_keep node offset bytes old new t (found, mid, looks, rest) =
+        kept_on old.mount mid.mount new.mount (finds_keep (gap_of old.waits node offset bytes) old node old.mount found mid.mount looks.finds)
+        (bridges_if_keeps found node offset bytes mid new t rest)
+
   looks_keep : (looked : ℕ) (node : ℕ) (a : Asked) (old new : Folder) (t : Told) → Once answers (Some looked) (Runs answers node a None) old t new
       → Kept old.mount new.mount
   looks_keep looked node a old new t r = once_keeps (Runs answers node a None) (runs_keep node a None) (Some looked) old new t r
@@ -130,11 +165,14 @@ module _ {S : Type 0} (fetched : S → Id → Answer → S → Type 0) {T : Type
   writes_anew_keep node offset a old new t r =
       waits_if_keeps (Runs answers node a None) (runs_keep node a None) (may_wait old.waits node offset (data_of a)) node offset (data_of a) old new t r
 
+  writes_apart_keep : (node offset : ℕ) (a : Asked) (old new : Folder) (t : Told) → WritesApart answers node offset a old t new → Kept old.mount new.mount
+  writes_apart_keep node offset a old new t r =
+      bridges_keep (Once answers (Some node) (WritesAnew answers node offset a))
+      (once_keeps (WritesAnew answers node offset a) (writes_anew_keep node offset a) (Some node)) node offset (data_of a) old new t r
+
   writes_keep : (node offset : ℕ) (a : Asked) (old new : Folder) (t : Told) → Writes answers node offset a old t new → Kept old.mount new.mount
   writes_keep node offset a old new t r =
-      waits_if_keeps (Once answers (Some node) (WritesAnew answers node offset a))
-      (once_keeps (WritesAnew answers node offset a) (writes_anew_keep node offset a) (Some node))
-      (may_wait old.waits node offset (data_of a)) node offset (data_of a) old new t r
+      waits_if_keeps (WritesApart answers node offset a) (writes_apart_keep node offset a) (may_wait old.waits node offset (data_of a)) node offset (data_of a) old new t r
 
   empties_keep : (node : ℕ) (old new : Folder) → Empties answers node old new → Kept old.mount new.mount
   empties_keep node old new (why, mid, settles, emptied) =
@@ -257,7 +295,8 @@ module _ {S : Type 0} (fetched : S → Id → Answer → S → Type 0) {T : Type
       kept_on s.0.mount u.0.mount t.0.mount (does_keep turn.0 s.0 u.0 s.1 u.1 answer_room r turn.2) (serves_keep ms u t rest)
 
   -- .. and all that waited was stored
-  pub serves_and_stores_keep : (messages : List (List ℕ)) (s t : Serving (Showing (Desk T S))) (h : Desk T S)
+  pub serves_and_stores_keep : (messages : List (List ℕ)) (s t : Serving (Showing (Desk T S))) (why : Option ℕ) (h : Desk T S)
       → Serves (Shows (CallAnswers fetched A honest copies) (SyncsDesk A honest)) messages s t
-      → StoresAll (CallAnswers fetched A honest copies) t.0.nodes t.0.waits t.0.mount h → Stays A s.0.mount.core h.core
-  serves_and_stores_keep messages s t h served stored = kept_on s.0.mount t.0.mount h (serves_keep messages s t served) (stores_all_keep t.0 t.0.waits t.0.mount h stored)
+      → StoresAll (CallAnswers fetched A honest copies) t.0.nodes t.0.waits t.0.mount why h → Stays A s.0.mount.core h.core
+  serves_and_stores_keep messages s t why h served stored =
+      kept_on s.0.mount t.0.mount h (serves_keep messages s t served) (stores_all_keep t.0 t.0.waits t.0.mount h why stored)

@@ -29,11 +29,12 @@ use Rattle.eden_fuse_life.specs.declared.fault.FolderFault.{FolderFault}
 use Rattle.eden_fuse_life.specs.declared.fault.FolderFault.TheVariants as life
 use Rattle.eden_fuse_life.specs.declared.life.FolderEnding.{FolderEnding}
 
--- the session's fault is told before that of the close
-abbrev pub first_fault : Result ⊤ SessionFault → Option FilesFault → Result ⊤ FolderFault
-first_fault (Err fault) unclosed = Err (life.Session fault)
-first_fault (Ok _) (Some fault) = Err (life.Close fault)
-first_fault (Ok _) None = Ok tt
+-- the session's fault is told before the error of the last stores, and that before the close's fault
+abbrev pub first_fault : Result ⊤ SessionFault → Option ℕ → Option FilesFault → Result ⊤ FolderFault
+first_fault (Err fault) unstored unclosed = Err (life.Session fault)
+first_fault (Ok _) (Some errno) unclosed = Err (life.Unstored errno)
+first_fault (Ok _) None (Some fault) = Err (life.Close fault)
+first_fault (Ok _) None None = Ok tt
 
 module _ {W F : Type 0} (w : Ghosts W) (f : Files F W) where
   -- a served folder's checkout was closed, and the first fault told
@@ -41,7 +42,7 @@ module _ {W F : Type 0} (w : Ghosts W) (f : Files F W) where
       (left : FolderEnding F S) : Type 0 where
     pub files : Closes w f root t tree N left.unclosed left.backing.files
     pub source_left : left.backing.source ≡ source
-    pub told : left.outcome ≡ first_fault said left.unclosed
+    pub told : left.outcome ≡ first_fault said left.unstored left.unclosed
 
   -- the history copies replies or doesn't, and may become so long
   module _ {S : Type 0} (fetched : S → Id → Answer → S → Type 0) (copies : Bool) (limit : ℕ) where
@@ -52,11 +53,12 @@ module _ {W F : Type 0} (w : Ghosts W) (f : Files F W) where
       pub source : left.backing.source ≡ backing.source
       pub unreceived : unread ≡ waiting
       pub unsent : line' ≡ line
+      pub unstored : left.unstored ≡ None
       pub unclosed : left.unclosed ≡ None
 
-    -- The overlay was opened, the folder served, all that waited stored, and the overlay closed, however the session ended. The
-    -- files are the same commit's. Where the outside is honest, the history is one of the opening tree with its numbers, what the files show is the
-    -- tree after it, and where they were closed they back the numbers that it gave.
+    -- The overlay was opened, the folder served, all that waited stored, or the first error told, and the overlay closed, however the
+    -- session ended. The files are the same commit's. Where the outside is honest, the history is one of the opening tree with its
+    -- numbers, what the files show is the tree after it, and where they were closed they back the numbers that it gave.
     pub record IsShown (base : Base) (settings : Settings) (backing : Backing F S) (m : Manner) (line line' : Line) (waiting unread : Known)
         (left : FolderEnding F S) : Type 0 where
       pub begun : Showing (Desk (Checkout F) S)
@@ -69,7 +71,7 @@ module _ {W F : Type 0} (w : Ghosts W) (f : Files F W) where
       pub session : Session (Shows (CallAnswers fetched (attempted w f) w.honest copies) (SyncsDesk (attempted w f) w.honest)) (begun, line)
           (ended, line') waiting unread said
       pub last : Desk (Checkout F) S
-      pub stored : StoresAll (CallAnswers fetched (attempted w f) w.honest copies) ended.nodes ended.waits ended.mount last
+      pub stored : StoresAll (CallAnswers fetched (attempted w f) w.honest copies) ended.nodes ended.waits ended.mount left.unstored last
       pub stays : Stays (attempted w f) begun.mount.core last.core
       pub legal : w.honest → Legal w.opening w.numbers last.core.history
       pub ends : EndsFolder base.root last.core.table (replay w.opening last.core.history) (replay_numbers w.numbers last.core.history)

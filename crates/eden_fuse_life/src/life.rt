@@ -25,21 +25,28 @@ use std::rt::Clock;
 pub struct FolderEnding<F, S> {
     /// The files as they stand, and the source as its last answer left it.
     pub backing: Backing<F, S>,
-    /// Why the overlay wasn't closed, if it was open and wasn't closed; told too where the session's fault came first.
+    /// The number of the first error upon which what was written last wasn't stored, if not all of it was; told too
+    /// where the session's fault came first.
+    pub unstored: Option<u32>,
+    /// Why the overlay wasn't closed, if it was open and wasn't closed; told too where another fault came first.
     pub unclosed: Option<FilesFault>,
-    /// The first fault of opening, session and close.
+    /// The first fault of opening, session, the last stores and close.
     pub outcome: Result<(), FolderFault>,
 }
 
-/// The first fault of a session and the close after it.
+/// The first fault of a session, the stores at its end, and the close after them.
 fn first_fault(
     said: Result<(), SessionFault>,
+    unstored: Option<u32>,
     unclosed: Option<FilesFault>,
 ) -> Result<(), FolderFault>
-    ensures { result ≡ first_fault said unclosed }
+    ensures { result ≡ first_fault said unstored unclosed }
 {
     if let Err(fault) = said {
         return Err(FolderFault::Session(fault));
+    }
+    if let Some(errno) = unstored {
+        return Err(FolderFault::Unstored(errno));
     }
     match unclosed {
         Some(fault) => Err(FolderFault::Close(fault)),
@@ -47,38 +54,42 @@ fn first_fault(
     }
 }
 
-/// Closes the checkout of a served folder, however the session ended. Where that fails, the files are left as they
-/// stand.
+/// Closes the checkout of a served folder, however the session ended, and whether or not all that waited was stored.
+/// Where that fails, the files are left as they stand.
 fn end<W: World, S: Drop, A: Allocator + Clone, F: Files<W>>(
     alloc: Global,
     served: ServedFolder<Checkout<A, W, F>, S>,
 ) -> FolderEnding<F, S>
-    ensures { (N : numbers.Numbers) → IsBacking W.World F.Files N served.table
+    ensures ends { (N : numbers.Numbers) → IsBacking W.World F.Files N served.table
         → EndsFolder W.World F.Files served.table.root served.table
         (shows W.World F.Files served.table.inodes) N served.source served.said result }
+    ensures unstored { result.unstored ≡ served.unstored }
 {
     let ServedFolder {
         table,
         source,
         said,
+        unstored,
     } = served;
     let Closed { files, unclosed } = close(alloc, table);
     FolderEnding {
         backing: Backing { files, source },
+        unstored,
         unclosed,
-        outcome: first_fault(said, unclosed),
+        outcome: first_fault(said, unstored, unclosed),
     }
 }
 
 /// Opens an overlay over a commit's tree, answers each of the kernel's messages over it, and closes it.
 ///
-/// The session ends where no more messages come, as after an unmount. The overlay is closed after a session's fault
-/// too; only where the close fails are the files left without their state. What the mount replied are the replies of
-/// the commit's whole tree, changed by one request after another, with the inode numbers that a `stat` may tell; files
-/// that were closed show the tree after them, and back those numbers.
+/// The session ends where no more messages come, as after an unmount. Then all that waits is stored. The overlay is
+/// closed after a session's fault too, and where not all was stored; only where the close fails are the files left
+/// without their state. What the mount replied are the replies of the commit's whole tree, changed by one request after
+/// another, with the inode numbers that a `stat` may tell; files that were closed show the tree after them, and back
+/// those numbers.
 ///
-/// Errors are told in `outcome`, the first in the order opening, session, close. Where the overlay isn't opened,
-/// nothing is received or sent.
+/// Errors are told in `outcome`, the first in the order opening, session, last stores, close. That something wasn't
+/// stored is told in `unstored` whatever came first. Where the overlay isn't opened, nothing is received or sent.
 pub fn live_folder<
     W: World,
     S: Source<W> + Drop,
@@ -111,6 +122,7 @@ pub fn live_folder<
     match open::<W, A, F>(alloc, memory, files, base, config) {
         Err((fault, files)) => FolderEnding {
             backing: Backing { files, source },
+            unstored: None,
             unclosed: None,
             outcome: Err(FolderFault::Open(fault)),
         },

@@ -21,12 +21,15 @@ pub struct Look {
     pub times: Times,
 }
 
-/// What is left of a mount whose folder was served: its table and its source, and how the session ended.
+/// What is left of a mount whose folder was served: its table and its source, how the session ended, and whether all
+/// that waited then was stored.
 #[derive(Drop)]
 pub struct ServedFolder<T, S> {
     pub table: T,
     pub source: S,
     pub said: Result<(), SessionFault>,
+    /// The number of the first error that a store met after the session; None if all that waited was stored.
+    pub unstored: Option<u32>,
 }
 
 /// Shows a table that shows the opening tree, and numbers that back the opening ones, in a mount of that room, with an
@@ -63,11 +66,13 @@ pub fn serve_folder<
     let Look { manner, times } = look;
     let mut shown = Shown::new(alloc, asking, clock, manner, times);
     let said = session(alloc, receiver, sender, &mut shown);
-    let (mount, source) = shown.into_mount().into_local().into_parts();
+    let (asking, unstored) = shown.into_mount();
+    let (mount, source) = asking.into_local().into_parts();
     mount.holds();
     ServedFolder {
         table: mount.into_table(),
         source,
         said,
+        unstored,
     }
 }

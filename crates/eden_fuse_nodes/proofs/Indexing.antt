@@ -89,7 +89,7 @@ module _ (at at' : Place → Option ℕ) (known known' : ℕ → Option Known) (
   }
 
 module _ (eq : Place → Place → Bool) (exact : IsExact eq) where
-  by_place : (p q : Place) → (p ≡ q) ⊎ (p ≢ q)
+  pub by_place : (p q : Place) → (p ≡ q) ⊎ (p ≢ q)
   by_place p q = ⊎_elim (λ t. inl (exact.only p q t)) (λ f. inr (λ s. false≢true (sym f ∙ subst (λ r. eq p r ≡ true) s (exact.again p)))) (cases_Bool (eq p q))
 
   -- a place that had no node is cleared

@@ -3,3 +3,4 @@ mod Orders
 mod Changes
 mod Walks
 mod PathLemmas
+mod Heights

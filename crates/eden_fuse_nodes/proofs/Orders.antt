@@ -31,7 +31,7 @@ numbers a b true t h e = absurd (false≢true e)
 numbers a b false true h e = h refl
 numbers a b false false h e = absurd (false≢true e)
 
-same_number : (a b : ℕ) → is_eq (nat_cmp a b) ≡ true → a ≡ b
+pub same_number : (a b : ℕ) → is_eq (nat_cmp a b) ≡ true → a ≡ b
 same_number a b e = numbers a b (nat_lt a b) (a == b) (eqb-true a b) e
 
 same_name : (a b : List ℕ) → is_eq (slice_cmp nat_cmp a b) ≡ true → a ≡ b

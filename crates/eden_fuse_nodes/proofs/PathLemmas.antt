@@ -1,5 +1,6 @@
 -- Ways up, and what changes of a table make of them.
-use Rattle.std.proofs.Common.{◌≡◌, ◌≢◌, ◌+◌, ◌∙◌, ⊎_elim, ℕ, List, [], ◌∷◌, ◌++◌, length, reverse, Option, Some, None, refl, sym, ap, subst, arith, append_assoc}
+use Rattle.std.proofs.Common.{◌≡◌, ◌≢◌, ◌+◌, ◌∙◌, ◌⊎◌, inl, inr, ⊎_elim, ℕ, List, [], ◌∷◌, ◌++◌, length, reverse, Option, Some, None, refl, sym, ap, subst, arith, append_assoc}
+use Rattle.std.specs.Ordering.{eq_by_cmp}
 use Rattle.std.proofs.lemmas.Bool.{cases_eq, eq-eqb, ne_eqb}
 use Rattle.std.proofs.lemmas.List.{length-append, reverse-append, reverse-reverse}
 use Rattle.std.proofs.lemmas.Option.{none-some, same_Some}
@@ -10,6 +11,8 @@ use Rattle.eden_fuse_nodes.specs.Tables.{Table, IsTable, known, place_in, place_
 use Rattle.eden_fuse_nodes.specs.Ways.{LeadsUp, LiesAt}
 use Rattle.eden_fuse_nodes.specs.Laws.{OnePath, OneNode, GoesThrough, LearntLies, RemovedLiesNowhere, RenamedLiesThere}
 use Rattle.eden_fuse_nodes.proofs.Changes.{none_of, place-nowhere}
+use Rattle.eden_fuse_nodes.proofs.Indexing.{by_place}
+use Rattle.eden_fuse_nodes.proofs.Orders.{order, exact}
 
 -- ---- one way from a node, and one node at its end
 
@@ -42,6 +45,22 @@ longer b x a e = omega (arith, ap length e, length-append b (x ∷ a))
 longer_still : {X : Type 0} (n : X) (b : List X) (x : X) (a : List X) → n ∷ b ++ x ∷ a ≢ x ∷ a
 longer_still n b x a e = omega (arith, ap length e, length-append b (x ∷ a))
 
+-- all but the first
+abbrev behind : List Name → List Name
+behind [] = []
+behind (n ∷ up) = up
+
+stands_or : (o : Option Place) (p : Place) → (o ≡ Some p) ⊎ (o ≢ Some p)
+stands_or None p = inr (none-some p)
+stands_or (Some q) p = elim (by_place (eq_by_cmp order) exact q p) [
+  | inl e ↦ inl (ap (λ (y : Place). Some y) e)
+  | inr n ↦ inr (λ e. n (same_Some q p e))
+]
+
+-- what stands somewhere isn't the root
+never_root : (t : Table) → IsTable t → (i : ℕ) (s : Place) → place_of t i ≡ Some s → i ≢ root
+never_root t x i s e r = none-some s (sym (ap (place_of t) r ∙ root_bare t x) ∙ e)
+
 module _ (old new : Table) (x : IsTable old) (p q : Place) (same : (i : ℕ) → place_of old i ≢ Some p → place_of old i ≢ Some q → place_of new i ≡ place_of old i)
     (u v : List Name) (pu : LeadsUp old p.parent u) (qv : LeadsUp old q.parent v) where
   -- a node that stands at a place has its way
@@ -55,39 +74,70 @@ module _ (old new : Table) (x : IsTable old) (p q : Place) (same : (i : ℕ) →
       let stays : place_of new i ≡ place_of old i = same i (λ e. h [] (at_place p u pu i (n ∷ up) l e)) (λ e. k [] (at_place q v qv i (n ∷ up) l e)) in
       (l.0, stays ∙ l.1, kept_way l.0 up l.2 (λ below e. h (n ∷ below) (ap (λ y. n ∷ y) e)) (λ below e. k (n ∷ below) (ap (λ y. n ∷ y) e)))
 
-  -- what stands at the end of such a way stood at the first place
-  stood_there : (i : ℕ) → LeadsUp old i (p.name ∷ u) → place_of old i ≡ Some p
-  stood_there i l = l.1 ∙ ap (λ k. Some (record { parent = k; name = p.name })) (one_end old x l.0 p.parent u l.2 pu)
+  -- what stands at the end of a way through a place stood at it
+  stood_at : (r : Place) (w : List Name) → LeadsUp old r.parent w → (i : ℕ) → LeadsUp old i (r.name ∷ w) → place_of old i ≡ Some r
+  stood_at r w rw_ i l = l.1 ∙ ap (λ k. Some (record { parent = k; name = r.name })) (one_end old x l.0 r.parent w l.2 rw_)
 
-  stays_below : (i : ℕ) (n : Name) (b : List Name) → LeadsUp old i (n ∷ b ++ p.name ∷ u) → ((below : List Name) → n ∷ b ++ p.name ∷ u ≢ below ++ q.name ∷ v)
+  stays_below : (i : ℕ) (n : Name) (b : List Name) → LeadsUp old i (n ∷ b ++ p.name ∷ u) → ((below : List Name) → v ≢ below ++ p.name ∷ u)
       → place_of new i ≡ place_of old i
-  stays_below i n b l k =
-      same i (λ e. longer_still n b p.name u (at_place p u pu i (n ∷ b ++ p.name ∷ u) l e)) (λ e. k [] (at_place q v qv i (n ∷ b ++ p.name ∷ u) l e))
+  stays_below i n b l off = same i
+      (λ e. longer_still n b p.name u (at_place p u pu i (n ∷ b ++ p.name ∷ u) l e))
+      (λ e. off b (sym (ap behind (at_place q v qv i (n ∷ b ++ p.name ∷ u) l e))))
 
-  pub moved_way : ((i : ℕ) → place_of old i ≡ Some p → place_of new i ≡ Some q) → LeadsUp new q.parent v → (i : ℕ) (b : List Name) → LeadsUp old i (b ++ p.name ∷ u)
-      → ((below : List Name) → b ++ p.name ∷ u ≢ below ++ q.name ∷ v) → LeadsUp new i (b ++ q.name ∷ v)
-  moved_way goes nv i [] l k = (q.parent, goes i (stood_there i l), nv)
-  moved_way goes nv i (n ∷ b) l k =
-      (l.0, stays_below i n b l k ∙ l.1, moved_way goes nv l.0 b l.2 (λ below e. k (n ∷ below) (ap (λ y. n ∷ y) e)))
+  pub moved_way : ((i : ℕ) → place_of old i ≡ Some p → place_of new i ≡ Some q) → LeadsUp new q.parent v → ((below : List Name) → v ≢ below ++ p.name ∷ u)
+      → (i : ℕ) (b : List Name) → LeadsUp old i (b ++ p.name ∷ u) → LeadsUp new i (b ++ q.name ∷ v)
+  moved_way goes nv off i [] l = (q.parent, goes i (stood_at p u pu i l), nv)
+  moved_way goes nv off i (n ∷ b) l = (l.0, stays_below i n b l off ∙ l.1, moved_way goes nv off l.0 b l.2)
+
+  -- what stood at the second place, and not at the first, stands nowhere, and so what lay below it leads nowhere
+  pub replaced_way : ((i : ℕ) → place_of old i ≡ Some q → place_of old i ≢ Some p → place_of new i ≡ None)
+      → (i : ℕ) (b : List Name) → LeadsUp old i (b ++ q.name ∷ v) → ((below : List Name) → b ++ q.name ∷ v ≢ below ++ p.name ∷ u) → (w : List Name) → ¬ LeadsUp new i w
+  replaced_way gone i [] l h [] m = never_root old x i _ (stood_at q v qv i l) m
+  replaced_way gone i [] l h (n ∷ w) m =
+      none-some _ (sym (gone i (stood_at q v qv i l) (λ e. h [] (at_place p u pu i (q.name ∷ v) l e))) ∙ m.1)
+  replaced_way gone i (n ∷ b) l h [] m = never_root old x i _ l.1 m
+  replaced_way gone i (n ∷ b) l h (o ∷ w) m =
+      let stays : place_of new i ≡ place_of old i = same i
+      (λ e. h [] (at_place p u pu i (n ∷ b ++ q.name ∷ v) l e))
+      (λ e. longer_still n b q.name v (at_place q v qv i (n ∷ b ++ q.name ∷ v) l e)) in
+      let up = place_is _ _ (same_Some _ _ (sym l.1 ∙ sym stays ∙ m.1)) in
+      replaced_way gone l.0 b l.2 (λ below e. h (n ∷ below) (ap (λ y. n ∷ y) e)) w (subst (λ (j : ℕ). LeadsUp new j w) (sym up.0) m.2)
+
+  -- what leads up led up before
+  pub led_before : ((i : ℕ) → place_of old i ≡ Some q → place_of old i ≢ Some p → place_of new i ≡ None)
+      → (i : ℕ) (w : List Name) → LeadsUp new i w → (was : List Name) × LeadsUp old i was
+  led_before gone i [] m = ([], m)
+  led_before gone i (n ∷ w) m = elim (stands_or (place_of old i) p) [
+    | inl e ↦ (p.name ∷ u, (p.parent, e, pu))
+    | inr h ↦ elim (stands_or (place_of old i) q) [
+      | inl e ↦ absurd (none-some _ (sym (gone i e h) ∙ m.1))
+      | inr k ↦ let up = led_before gone m.0 w m.2 in (n ∷ up.0, (m.0, sym (same i h k) ∙ m.1, up.1))
+    ]
+  ]
 
 -- ---- a way that goes through a place at which nothing stands any more
 
 module _ (old new : Table) (x : IsTable old) (p : Place) (r : Removes old new p) (u : List Name) (pu : LeadsUp old p.parent u) where
-  no_root : (i : ℕ) (s : Place) → place_of old i ≡ Some s → i ≢ root
-  no_root i s e t = none-some s (sym (ap (place_of old) t ∙ root_bare old x) ∙ e)
+  stood : (i : ℕ) → LeadsUp old i (p.name ∷ u) → place_of old i ≡ Some p
+  stood i l = stood_at old new x p p (λ j n o. ap place_in (r.kept j n)) u u pu pu p u pu i l
 
   pub lost_way : (i : ℕ) (b : List Name) → LeadsUp old i (b ++ p.name ∷ u) → (w : List Name) → ¬ LeadsUp new i w
-  lost_way i [] l [] m =
-      no_root i p (stood_there old new x p p (λ j n o. ap place_in (r.kept j n)) u u pu pu i l) m
-  lost_way i [] l (n ∷ w) m =
-      let stood = stood_there old new x p p (λ j n o. ap place_in (r.kept j n)) u u pu pu i l in
-      none-some _ (sym (ap place_in (r.gone i stood) ∙ place-nowhere (known old i)) ∙ m.1)
-  lost_way i (n ∷ b) l [] m = no_root i _ l.1 m
+  lost_way i [] l [] m = never_root old x i p (stood i l) m
+  lost_way i [] l (n ∷ w) m = none-some _ (sym (ap place_in (r.gone i (stood i l)) ∙ place-nowhere (known old i)) ∙ m.1)
+  lost_way i (n ∷ b) l [] m = never_root old x i _ l.1 m
   lost_way i (n ∷ b) l (o ∷ w) m =
       let other : place_of old i ≢ Some p = λ e. longer_still n b p.name u (one_way old x i (n ∷ b ++ p.name ∷ u) (p.name ∷ u) l (p.parent, e, pu)) in
       let stays : place_of new i ≡ place_of old i = ap place_in (r.kept i other) in
       let up = place_is _ _ (same_Some _ _ (sym l.1 ∙ sym stays ∙ m.1)) in
       lost_way l.0 b l.2 w (subst (λ (j : ℕ). LeadsUp new j w) (sym up.0) m.2)
+
+  -- what leads up led up so before
+  pub led_so : (i : ℕ) (w : List Name) → LeadsUp new i w → LeadsUp old i w
+  led_so i [] m = m
+  led_so i (n ∷ w) m = elim (stands_or (place_of old i) p) [
+    | inl e ↦ absurd (none-some _ (sym (ap place_in (r.gone i e) ∙ place-nowhere (known old i)) ∙ m.1))
+    | inr h ↦ (m.0, sym (ap place_in (r.kept i h)) ∙ m.1, led_so m.0 w m.2)
+  ]
 
 -- ---- paths, which are ways from the other end
 
@@ -146,6 +196,7 @@ removed_lies_nowhere old new p above x r pu =
       kept = λ i path l h.
           let off : (below : List Name) → reverse path ≢ below ++ p.name ∷ reverse above = λ below e. h (turned_back path above p.name below e) in
           kept_way old new x p p same (reverse above) (reverse above) pu pu i (reverse path) l off off;
+      only = λ i path l. led_so old new x p r (reverse above) pu i (reverse path) l;
     }
 
 place-moved_to : (o : Option Known) (p q : Place) → place_in o ≡ Some p → place_in (moved q o) ≡ Some q
@@ -156,13 +207,20 @@ pub renamed_lies_there : RenamedLiesThere
 renamed_lies_there old new p q from to x r pu qv apart =
     let same : (i : ℕ) → place_of old i ≢ Some p → place_of old i ≢ Some q → place_of new i ≡ place_of old i = λ i n o. ap place_in (r.kept i n o) in
     let kept = kept_way old new x p q same (reverse from) (reverse to) pu qv in
-    let nv : LeadsUp new q.parent (reverse to)
-    = kept q.parent (reverse to) qv (λ below e. apart (turned_back to from p.name below e)) (λ below e. longer below q.name (reverse to) e) in
+    let off : (below : List Name) → reverse to ≢ below ++ p.name ∷ reverse from = λ below e. apart (turned_back to from p.name below e) in
+    let nv : LeadsUp new q.parent (reverse to) = kept q.parent (reverse to) qv off (λ below e. longer below q.name (reverse to) e) in
+    let gone : (i : ℕ) → place_of old i ≡ Some q → place_of old i ≢ Some p → place_of new i ≡ None
+    = λ i e n. ap place_in (r.replaced i e n) ∙ place-nowhere (known old i) in
     record {
-      goes = λ i rest l h. turned_lies new i to q.name rest
+      goes = λ i rest l. turned_lies new i to q.name rest
           (moved_way old new x p q same (reverse from) (reverse to) pu qv
-          (λ j e. ap place_in (r.goes j e) ∙ place-moved_to (known old j) p q e) nv i (reverse rest) (lies_turned old i from p.name rest l)
-          (λ below e. h (turned_back (from ++ p.name ∷ rest) to q.name below (turned from p.name rest ∙ e))));
+          (λ j e. ap place_in (r.goes j e) ∙ place-moved_to (known old j) p q e) nv off i (reverse rest) (lies_turned old i from p.name rest l));
+      replaced = λ i rest path l h. replaced_way old new x p q same (reverse from) (reverse to) pu qv gone i (reverse rest) (lies_turned old i to q.name rest l)
+          (λ below e. h (turned_back (to ++ q.name ∷ rest) from p.name below (turned to q.name rest ∙ e)))
+          (reverse path);
       kept = λ i path l h k. kept i (reverse path) l
           (λ below e. h (turned_back path from p.name below e)) (λ below e. k (turned_back path to q.name below e));
+      only = λ i path l.
+          let up = led_before old new x p q same (reverse from) (reverse to) pu qv gone i (reverse path) l in
+          (reverse up.0, subst (λ (y : List Name). LeadsUp old i y) (sym (reverse-reverse up.0)) up.1);
     }

@@ -62,8 +62,11 @@ module _ (t : Table) (id node : ℕ) (up : List (List ℕ)) (w : Walked t id nod
   pub walked_lost : node ≢ root → place_of t node ≡ None → (other : List (List ℕ)) → ¬ LeadsUp t id other
   walked_lost n s other l = let o = w.only other l in lost_here n s o.0 o.2
 
-  pub walked_far : (k : ℕ) → k < length up → (other : List (List ℕ)) → LeadsUp t id other → k < length other
-  walked_far k h other l = let o = w.only other l in omega (arith, h, ap length o.1, length-append up o.0)
+  pub walked_far : (k : ℕ) → k < length up → (rest : List (List ℕ)) → LeadsUp t node rest → (other : List (List ℕ)) × LeadsUp t id other × (k < length other)
+  walked_far k h rest l = (up ++ rest, w.back rest l, omega (arith, h, length-append up rest))
+
+  pub walked_off : ((rest : List (List ℕ)) → ¬ LeadsUp t node rest) → (other : List (List ℕ)) → ¬ LeadsUp t id other
+  walked_off off other l = let o = w.only other l in off o.0 o.2
 
 -- ---- a way is a path, or not
 
@@ -71,18 +74,20 @@ pub far_path : (path : List (List ℕ)) → most_names < length (reverse path) �
 far_path path h = rw (lt-ltb most_names (length path) (omega (arith, h, length-reverse path))) refl
 
 far_where : (t : Table) (id : ℕ) → EndsSo t id way.Far → IsWhere t id TooFar
-far_where t id far path l = far_path path (far (reverse path) l)
+far_where t id far =
+    let back = sym (reverse-reverse far.0) in (
+      reverse far.0,
+      subst (λ (x : List (List ℕ)). LeadsUp t id x) back far.1,
+      far_path (reverse far.0) (subst (λ (x : List (List ℕ)). most_names < length x) back far.2),
+    )
 
-refused_where : (t : Table) (id : ℕ) (up : List (List ℕ)) → ((other : List (List ℕ)) → LeadsUp t id other → other ≡ up)
-    → IsSome (path_refusal (reverse up)) → IsWhere t id TooFar
-refused_where t id up only r path l =
-    let same : reverse up ≡ path = ap reverse (sym (only (reverse path) l)) ∙ reverse-reverse path in
-    subst (λ (x : List (List ℕ)). IsSome (path_refusal x)) same r
+refused_where : (t : Table) (id : ℕ) (up : List (List ℕ)) → LeadsUp t id up → IsSome (path_refusal (reverse up)) → IsWhere t id TooFar
+refused_where t id up l r = (reverse up, subst (λ (x : List (List ℕ)). LeadsUp t id x) (sym (reverse-reverse up)) l, r)
 
 pub is_where : (t : Table) (id : ℕ) (w : Way) (s : Whereabouts) → EndsSo t id w → Follows w s → IsWhere t id s
 is_where t id (way.AtRoot up) (At path) e f =
     subst (λ (x : List (List ℕ)). LeadsUp t id x) (sym (ap reverse f ∙ reverse-reverse up.items)) e.0
-is_where t id (way.AtRoot up) TooFar e f = refused_where t id up.items e.1 f
+is_where t id (way.AtRoot up) TooFar e f = refused_where t id up.items e.0 f
 is_where t id (way.AtRoot up) Nowhere e f = absurd f
 is_where t id way.Far s e f = subst (λ (x : Whereabouts). IsWhere t id x) (sym f) (far_where t id e)
 is_where t id way.Lost s e f = subst (λ (x : Whereabouts). IsWhere t id x) (sym f) (λ path l. e (reverse path) l)

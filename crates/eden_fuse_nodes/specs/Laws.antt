@@ -24,20 +24,24 @@ pub record LooksUp (old new : Table) (id : ℕ) (p : Place) : Type 0 where
 abbrev pub LearntLies : Type 0
 LearntLies = (old new : Table) (id : ℕ) (p : Place) → Learns old new id p → LooksUp old new id p
 
--- what lay at the place or below it lies nowhere, and all else where it lay
+-- what lay at the place or below it lies nowhere, and all else where it lay; what lay nowhere lies nowhere
 pub record TakesAway (old new : Table) (above : Path) (name : Name) : Type 0 where
   pub gone : (i : ℕ) (rest path : Path) → LiesAt old i (above ++ name ∷ rest) → ¬ LiesAt new i path
   pub kept : (i : ℕ) (path : Path) → LiesAt old i path → ¬ GoesThrough path above name → LiesAt new i path
+  pub only : (i : ℕ) (path : Path) → LiesAt new i path → LiesAt old i path
 
 abbrev pub RemovedLiesNowhere : Type 0
 RemovedLiesNowhere = (old new : Table) (p : Place) (above : Path) → IsTable old → Removes old new p → LiesAt old p.parent above
     → TakesAway old new above p.name
 
--- what lay at the first place or below it lies at the second or below it, and all that lay at neither where it lay; the second
--- directory lies neither at the first place nor below it, and the first place not below the second
+-- what lay at the first place or below it lies at the second or below it; what lay at the second or below it before, and not at
+-- the first or below that, lies nowhere; all that lay at neither lies where it lay; and what lay nowhere lies nowhere. The second
+-- directory lies neither at the first place nor below it
 pub record MovesAll (old new : Table) (from : Path) (n : Name) (to : Path) (m : Name) : Type 0 where
-  pub goes : (i : ℕ) (rest : Path) → LiesAt old i (from ++ n ∷ rest) → ¬ GoesThrough (from ++ n ∷ rest) to m → LiesAt new i (to ++ m ∷ rest)
+  pub goes : (i : ℕ) (rest : Path) → LiesAt old i (from ++ n ∷ rest) → LiesAt new i (to ++ m ∷ rest)
+  pub replaced : (i : ℕ) (rest path : Path) → LiesAt old i (to ++ m ∷ rest) → ¬ GoesThrough (to ++ m ∷ rest) from n → ¬ LiesAt new i path
   pub kept : (i : ℕ) (path : Path) → LiesAt old i path → ¬ GoesThrough path from n → ¬ GoesThrough path to m → LiesAt new i path
+  pub only : (i : ℕ) (path : Path) → LiesAt new i path → (was : Path) × LiesAt old i was
 
 abbrev pub RenamedLiesThere : Type 0
 RenamedLiesThere = (old new : Table) (p q : Place) (from to : Path) → IsTable old → Renames old new p q → LiesAt old p.parent from → LiesAt old q.parent to

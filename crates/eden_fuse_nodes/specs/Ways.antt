@@ -12,10 +12,14 @@ abbrev pub LeadsUp : Table → ℕ → List (List ℕ) → Type 0
 LeadsUp t id [] = id ≡ root
 LeadsUp t id (name ∷ up) = (parent : ℕ) × (place_of t id ≡ Some (record { parent = parent; name = name })) × LeadsUp t parent up
 
+-- some names lead there
+abbrev pub IsBelowRoot : Table → ℕ → Type 0
+IsBelowRoot t id = (up : List (List ℕ)) × LeadsUp t id up
+
 -- how the way from a node up ends
 abbrev pub EndsSo : Table → ℕ → Way → Type 0
 EndsSo t id (way.AtRoot up) = LeadsUp t id up.items × ((other : List (List ℕ)) → LeadsUp t id other → other ≡ up.items)
-EndsSo t id way.Far = (up : List (List ℕ)) → LeadsUp t id up → most_names < length up
+EndsSo t id way.Far = (up : List (List ℕ)) × LeadsUp t id up × (most_names < length up)
 EndsSo t id way.Lost = (up : List (List ℕ)) → ¬ LeadsUp t id up
 
 -- where a node lies whose way ends so
@@ -30,10 +34,10 @@ Follows way.Lost w = w ≡ Nowhere
 abbrev pub LiesAt : Table → ℕ → List (List ℕ) → Type 0
 LiesAt t id path = LeadsUp t id (reverse path)
 
--- where a node lies, if a request can name it: nowhere if no path leads to it, as after it was removed
+-- where a node lies: too far if at a path that no request can have, and nowhere if at no path, as after it was removed
 abbrev pub IsWhere : Table → ℕ → Whereabouts → Type 0
 IsWhere t id (At path) = LiesAt t id path
-IsWhere t id TooFar = (path : List (List ℕ)) → LiesAt t id path → IsSome (path_refusal path)
+IsWhere t id TooFar = (path : List (List ℕ)) × LiesAt t id path × IsSome (path_refusal path)
 IsWhere t id Nowhere = (path : List (List ℕ)) → ¬ LiesAt t id path
 
 -- its path, or why there is none: ENAMETOOLONG (36), ESTALE (116)

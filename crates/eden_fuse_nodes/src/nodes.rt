@@ -1,4 +1,4 @@
-ghost use Rattle.std.specs.Prelude.{◌≡◌, ℕ, None, Some, option_map, IfOk, IsSome, OnOk, OnErr, MatchOption};
+ghost use Rattle.std.specs.Prelude.{◌≡◌, ℕ, None, Some, option_map, IfOk, IsSome, OnOk, OnErr, MatchBool, MatchOption};
 ghost use Rattle.eden_fuse_nodes.specs.Tables.{
   Forgets,
   IsBare,
@@ -14,7 +14,7 @@ ghost use Rattle.eden_fuse_nodes.specs.Tables.{
   known,
   place_of,
 };
-ghost use Rattle.eden_fuse_nodes.specs.Ways.{EndsSo, IsWhere};
+ghost use Rattle.eden_fuse_nodes.specs.Ways.{EndsSo, IsBelowRoot, IsWhere};
 
 use crate::known::Known;
 use crate::maps::{add, clear, leave, lower, raise, resettle, settle, unsettle};
@@ -202,7 +202,25 @@ impl Nodes {
             up.push(place.name.copy(alloc)?)?;
             node = place.parent;
         }
-        Ok(Way::Far)
+        if self.reaches_root(node) {
+            return Ok(Way::Far);
+        }
+        Ok(Way::Lost)
+    }
+
+    // Whether names lead from a node up to the root. A way has no more names than nodes are known, or it leads in a
+    // circle.
+    fn reaches_root(&self, id: u64) -> bool
+        ensures { MatchBool result (IsBelowRoot self.now id) (¬ IsBelowRoot self.now id) }
+    {
+        let mut node = id;
+        for _height in 0..self.nodes.len() {
+            match self.place_of(node) {
+                None => return node == ROOT,
+                Some(place) => node = place.parent,
+            }
+        }
+        node == ROOT
     }
 
     /// What each table keeps, as `node_laws` asks for it. It does nothing.

@@ -1,5 +1,5 @@
 -- A whole life of a folder of several threads, from its parts.
-use Rattle.std.proofs.Common.{◌≡◌, ℕ, Option, Some, None, Result, Ok, Err, inr, refl, sym, ◌∙◌, subst}
+use Rattle.std.proofs.Common.{◌≡◌, ℕ, Option, Some, None, Result, Ok, Err, inr, refl, sym, ap, ◌∙◌, subst}
 use Rattle.std.specs.Prelude.{⊤, IfOk, IfErr}
 use Rattle.eden_model.specs.declared.world.World.{Ghosts}
 use Rattle.eden_model.specs.Histories.{replay}
@@ -20,40 +20,45 @@ use Rattle.eden_fuse_shown.specs.declared.manner.Manner.{Manner}
 use Rattle.eden_fuse_life.specs.declared.fault.FolderFault.{FolderFault}
 use Rattle.eden_fuse_life.specs.Lives.{first_fault}
 use Rattle.eden_fuse_host.specs.declared.sharing.FolderTable.{FolderTable}
-use Rattle.eden_fuse_host.specs.Sharing.{ShowsTable}
+use Rattle.eden_fuse_host.specs.Lines.{Coming}
+use Rattle.eden_fuse_host.specs.Sharing.{IsLeft, ShowsTable}
 use Rattle.eden_fuse_shared_life.specs.declared.life.SharedFolderEnding.{SharedFolderEnding}
-use Rattle.eden_fuse_shared_life.specs.Lives.{Ends, IsShown, LivesShared, LivesSharedBy}
+use Rattle.eden_fuse_shared_life.specs.Lives.{Ends, IsShown, LivesShared, LivesSharedBy, opened_with}
 
-module _ {W F V O : Type 0} (w : Ghosts W) (f : Files F W) (v : Receiver V) (o : Sender O)
+module _ {W F V O : Type 0} (w : Ghosts W) (f : Files F W) (v : Receiver V) (o : Sender O) (Comes : Coming)
     (limit : ℕ) (base : Base) (settings : Settings) (m : Manner) (files : F) (left : SharedFolderEnding F) where
   -- the first fault of a served folder is none of the opening
-  lived : (said : Result ⊤ SessionFault) (u : Option FilesFault) → IsShown w f v o limit base settings m files left
-      → LivesSharedBy w f v o limit (first_fault said u) base settings m files left
-  lived (Err fault) u h = h
-  lived (Ok _) (Some why) h = h
-  lived (Ok _) None h = h
+  lived : (said : Result ⊤ SessionFault) (unstored : Option ℕ) (u : Option FilesFault) → IsShown w f v o Comes limit base settings m files left
+      → LivesSharedBy w f v o Comes limit (first_fault said unstored u) base settings m files left
+  lived (Err fault) unstored u h = h
+  lived (Ok _) (Some errno) u h = h
+  lived (Ok _) None (Some why) h = h
+  lived (Ok _) None None h = h
 
   -- what was opened was shown and closed, or closed at once
   pub ended : (t : Checkout F) (room : Room) (shown : Result (FolderTable (Checkout F)) (Checkout F)) → IsOpened w f base settings files t → room ≡ room_for settings
-      → IfOk shown (ShowsTable v o (attempted w f) w.honest w.opening w.numbers (terms_at (attempted w f) room limit t) m)
-      → IfErr shown (λ (e : Checkout F). e ≡ t) → Ends w f shown left → LivesShared w f v o limit base settings m files left
+      → IfOk shown (ShowsTable v o Comes (attempted w f) w.honest w.opening w.numbers (terms_at (attempted w f) room limit t) m)
+      → IfErr shown (λ (e : Checkout F). e ≡ t) → Ends w f shown left → LivesShared w f v o Comes limit base settings m files left
   ended t room (Ok x) opened is ok err ends =
-      let shows = subst (λ (y : Room). ShowsTable v o (attempted w f) w.honest w.opening w.numbers (terms_at (attempted w f) y limit t) m x) is ok in
+      let shows = subst (λ (y : Room). ShowsTable v o Comes (attempted w f) w.honest w.opening w.numbers (terms_at (attempted w f) y limit t) m x) is ok in
       let N = replay_numbers w.numbers shows.ended.history in
-      let whole : IsShown w f v o limit base settings m files left = record {
+      let outcome : left.outcome ≡ first_fault x.said left.unstored left.unclosed =
+      ends.2 ∙ ap (λ (why : Option ℕ). first_fault x.said why left.unclosed) (sym ends.1) in
+      let whole : IsShown w f v o Comes limit base settings m files left = record {
         begun = t;
         opened = opened;
         said = x.said;
         ended = shows.ended;
-        is = shows.is;
+        is = subst (λ (why : Option ℕ). IsLeft v o Comes (attempted w f) w.honest w.opening w.numbers (opened_with settings limit t) m x.said why shows.ended) (sym ends.1) shows.is;
         closed = closes_after w f base.root x.table shows.ended.table (replay w.opening shows.ended.history) N shows.table (shows.is.kept.commit ∙ opened.commit) shows.is.shown
             left.unclosed left.files (ends.0 N (backs_as w f N x.table shows.ended.table shows.table shows.is.backed));
-        told = ends.1;
+        told = outcome;
       } in
-      subst (λ (r : Result ⊤ FolderFault). LivesSharedBy w f v o limit r base settings m files left) (sym ends.1) (lived x.said left.unclosed whole)
+      subst (λ (r : Result ⊤ FolderFault). LivesSharedBy w f v o Comes limit r base settings m files left) (sym outcome) (lived x.said left.unstored left.unclosed whole)
   ended t room (Err u) opened is ok err ends =
-      subst (λ (r : Result ⊤ FolderFault). LivesSharedBy w f v o limit r base settings m files left) (sym ends.1) (inr (record {
+      subst (λ (r : Result ⊤ FolderFault). LivesSharedBy w f v o Comes limit r base settings m files left) (sym ends.2) (inr (record {
         memory = refl;
+        unstored = ends.1;
         begun = t;
         opened = opened;
         closed = closes_after w f base.root u t w.opening w.numbers err opened.commit opened.shown left.unclosed left.files

@@ -22,6 +22,7 @@ use Rattle.eden_fuse_life.specs.declared.fault.FolderFault.{FolderFault}
 use Rattle.eden_fuse_life.specs.declared.fault.FolderFault.TheVariants as life
 use Rattle.eden_fuse_life.specs.Lives.{first_fault}
 use Rattle.eden_fuse_host.specs.declared.sharing.FolderTable.{FolderTable}
+use Rattle.eden_fuse_host.specs.Lines.{Coming}
 use Rattle.eden_fuse_host.specs.Sharing.{IsLeft}
 use Rattle.eden_fuse_shared_life.specs.declared.life.SharedFolderEnding.{SharedFolderEnding}
 
@@ -34,37 +35,40 @@ module _ {W F : Type 0} (w : Ghosts W) (f : Files F W) where
   abbrev pub ClosesAs : Checkout F → SharedFolderEnding F → Type 0
   ClosesAs t left = (N : Numbers) → IsBacking w f N t → Closes w f t.root t (shows w f t.inodes) N left.unclosed left.files
 
-  -- an open checkout was closed, and the first fault told: it was shown, or there was no memory to share it
+  -- an open checkout was closed, and the first fault told, beside what the last stores came to: it was shown, or there was no memory
+  -- to share it
   abbrev pub Ends : Result (FolderTable (Checkout F)) (Checkout F) → SharedFolderEnding F → Type 0
-  Ends (Ok x) left = ClosesAs x.table left × (left.outcome ≡ first_fault x.said left.unclosed)
-  Ends (Err t) left = ClosesAs t left × (left.outcome ≡ Err (life.Open opens.Memory))
+  Ends (Ok x) left = ClosesAs x.table left × (left.unstored ≡ x.unstored) × (left.outcome ≡ first_fault x.said x.unstored left.unclosed)
+  Ends (Err t) left = ClosesAs t left × (left.unstored ≡ None) × (left.outcome ≡ Err (life.Open opens.Memory))
 
   -- the overlay wasn't opened, for that fault
   pub record IsUnopened (base : Base) (files : F) (why : OpenFault) (left : SharedFolderEnding F) : Type 0 where
     pub refused : IsRefused w f base files why left.files
+    pub unstored : left.unstored ≡ None
     pub unclosed : left.unclosed ≡ None
 
   -- The overlay was opened, and closed again, since there was no memory to share it. Where the outside is honest, it shows
   -- the opening tree still, and backs the opening numbers.
   pub record IsUnshared (base : Base) (settings : Settings) (files : F) (why : OpenFault) (left : SharedFolderEnding F) : Type 0 where
     pub memory : why ≡ opens.Memory
+    pub unstored : left.unstored ≡ None
     pub begun : Checkout F
     pub opened : IsOpened w f base settings files begun
     pub closed : Closes w f base.root begun w.opening w.numbers left.unclosed left.files
 
-  -- the history may become so long
-  module _ {V O : Type 0} (v : Receiver V) (o : Sender O) (limit : ℕ) where
-    -- The overlay was opened, the folder served, and the overlay closed, however the session ended. The files are the same
-    -- commit's, and no inode number was given again. Where the outside is honest, what they show is the tree after what the
-    -- folder's passes were told, and where they were closed they back the numbers that were told.
+  -- lines give such messages, and the history may become so long
+  module _ {V O : Type 0} (v : Receiver V) (o : Sender O) (Comes : Coming) (limit : ℕ) where
+    -- The overlay was opened, the folder served, all that waited stored, or the first error told, and the overlay closed, however the
+    -- session ended. The files are the same commit's, and no inode number was given again. Where the outside is honest, what they show
+    -- is the tree after what the folder's passes were told, and where they were closed they back the numbers that were told.
     pub record IsShown (base : Base) (settings : Settings) (m : Manner) (files : F) (left : SharedFolderEnding F) : Type 0 where
       pub begun : Checkout F
       pub opened : IsOpened w f base settings files begun
       pub said : Result ⊤ SessionFault
       pub ended : Core (Checkout F)
-      pub is : IsLeft v o (attempted w f) w.honest w.opening w.numbers (opened_with settings limit begun) m said ended
+      pub is : IsLeft v o Comes (attempted w f) w.honest w.opening w.numbers (opened_with settings limit begun) m said left.unstored ended
       pub closed : Closes w f base.root ended.table (replay w.opening ended.history) (replay_numbers w.numbers ended.history) left.unclosed left.files
-      pub told : left.outcome ≡ first_fault said left.unclosed
+      pub told : left.outcome ≡ first_fault said left.unstored left.unclosed
 
     abbrev pub LivesSharedBy : Result ⊤ FolderFault → Base → Settings → Manner → F → SharedFolderEnding F → Type 0
     LivesSharedBy (Err (life.Open why)) base settings m files left =

@@ -29,21 +29,28 @@ use std::thread::Threads;
 pub struct SharedFolderEnding<F> {
     /// The files as they stand.
     pub files: F,
-    /// Why the overlay wasn't closed, if it was open and wasn't closed; told too where the session's fault came first.
+    /// The number of the first error upon which what was written last wasn't stored, if not all of it was; told too
+    /// where the session's fault came first.
+    pub unstored: Option<u32>,
+    /// Why the overlay wasn't closed, if it was open and wasn't closed; told too where another fault came first.
     pub unclosed: Option<FilesFault>,
-    /// The first fault of opening, session and close.
+    /// The first fault of opening, session, the last stores and close.
     pub outcome: Result<(), FolderFault>,
 }
 
-/// The first fault of a session and the close after it.
+/// The first fault of a session, the stores at its end, and the close after them.
 fn first_fault(
     said: Result<(), SessionFault>,
+    unstored: Option<u32>,
     unclosed: Option<FilesFault>,
 ) -> Result<(), FolderFault>
-    ensures { result ≡ first_fault said unclosed }
+    ensures { result ≡ first_fault said unstored unclosed }
 {
     if let Err(fault) = said {
         return Err(FolderFault::Session(fault));
+    }
+    if let Some(errno) = unstored {
+        return Err(FolderFault::Unstored(errno));
     }
     match unclosed {
         Some(fault) => Err(FolderFault::Close(fault)),
@@ -55,12 +62,14 @@ fn first_fault(
 fn unopened<F>(fault: OpenFault, files: F) -> SharedFolderEnding<F>
     ensures { result ≡ record {
       files = files;
+      unstored = None;
       unclosed = None;
       outcome = Err (life.Open fault);
     } }
 {
     SharedFolderEnding {
         files,
+        unstored: None,
         unclosed: None,
         outcome: Err(FolderFault::Open(fault)),
     }
@@ -78,16 +87,24 @@ fn end<W: World, F: Files<W>>(
             let Closed { files, unclosed } = close(alloc, table);
             SharedFolderEnding {
                 files,
+                unstored: None,
                 unclosed,
                 outcome: Err(FolderFault::Open(OpenFault::Memory)),
             }
         }
-        Ok(FolderTable { table, said }) => {
+        Ok(
+            FolderTable {
+                table,
+                said,
+                unstored,
+            },
+        ) => {
             let Closed { files, unclosed } = close(alloc, table);
             SharedFolderEnding {
                 files,
+                unstored,
                 unclosed,
-                outcome: first_fault(said, unclosed),
+                outcome: first_fault(said, unstored, unclosed),
             }
         }
     }
@@ -123,8 +140,8 @@ fn live_tied<
     requires sources { config.now.passes ≤ length backing.source.items }
     requires ties { AreTied ties.lanes.items ties.ends.items config.now.passes }
     requires names { names_of ties.lanes.items ≡ J.names }
-    ensures { LivesShared W.World F.Files V.Receiver O.Sender (H.limit history) base config.now look.manner
-        backing.files result }
+    ensures { LivesShared W.World F.Files V.Receiver O.Sender (G.comes lines.now) (H.limit history) base
+        config.now look.manner backing.files result }
 {
     let Backing {
         files,
@@ -149,11 +166,13 @@ fn live_tied<
 /// Messages have their turns one after another, and none waits for an object that another message needs, unless the
 /// object went again between a look and its turn, or the other message is a rename, and a directory above its old path
 /// went from memory after that was looked up. The session ends where no more messages come, as after an unmount:
-/// then all that waits is stored, and the overlay is closed, after a session's fault too, with the same commit and the
-/// next inode number that was reached. Only where the close fails are the files left without their state.
+/// then all that waits is stored, and the overlay is closed, after a session's fault too, and where not all was stored,
+/// with the same commit and the next inode number that was reached. Only where the close fails are the files left
+/// without their state.
 ///
-/// Errors are told in `outcome`, the first in the order opening, session, close. Where the overlay isn't opened, or
-/// there is no memory to share it, no line is asked for.
+/// Errors are told in `outcome`, the first in the order opening, session, last stores, close. That something wasn't
+/// stored is told in `unstored` whatever came first. Where the overlay isn't opened, or there is no memory to share it,
+/// no line is asked for.
 pub fn live_shared_folder<
     W: World + Send,
     F: Files<W> + Send,
@@ -179,8 +198,8 @@ pub fn live_shared_folder<
         (F.stored backing.files) }
     requires empty { H.entries history ≡ [] }
     requires sources { config.now.passes ≤ length backing.source.items }
-    ensures { LivesShared W.World F.Files V.Receiver O.Sender (H.limit history) base config.now look.manner
-        backing.files result }
+    ensures { LivesShared W.World F.Files V.Receiver O.Sender (G.comes lines.now) (H.limit history) base
+        config.now look.manner backing.files result }
 {
     let Ok(ties) = Ties::new(alloc, config.passes()) else {
         return unopened(OpenFault::Memory, backing.files);

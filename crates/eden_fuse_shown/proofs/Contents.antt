@@ -10,7 +10,7 @@ alone : (b : List ℕ) → written 0 b [] ≡ b
 alone [] = refl
 alone (y ∷ b) = ap (λ (l : List ℕ). (y ∷ b) ++ l) (drop_all (0 + length (y ∷ b)) [] (omega arith)) ∙ append-nil (y ∷ b)
 
-by_order : (a b : ℕ) → (a < b) ⊎ (b ≤ a)
+pub by_order : (a b : ℕ) → (a < b) ⊎ (b ≤ a)
 by_order a b = elim (cases_Bool (nat_lt a b)) [ inl e ↦ inl (ltb-true a b e) | inr e ↦ inr (ltb-false a b e) ]
 
 module _ (put : DataIsWritten) (stay : OldBytesStay) (long : WrittenLength) where

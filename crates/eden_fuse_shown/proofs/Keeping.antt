@@ -1,6 +1,8 @@
 -- What has a hidden name, what is moved over it, and what another run left.
-use Rattle.std.proofs.Common.{◌≡◌, ℕ, suc, ◌+◌, Bool, true, false, List, length, Option, None, Some, Result, inl, inr, refl, sym, subst, ◌∙◌, arith}
+use Rattle.std.proofs.Common.{◌≡◌, ℕ, suc, ◌+◌, Bool, true, false, List, length, Option, None, Some, IsSome, Result, inl, inr, refl, sym, ap, subst, ◌∙◌, arith}
 use Rattle.std.specs.List.{slice_get}
+use Rattle.std.specs.Option.{is_some}
+use Rattle.std.proofs.lemmas.Bool.{false≢true}
 use Rattle.eden_model.specs.Trees.{Name}
 use Rattle.eden_fuse_format.specs.Asked.{Asked}
 use Rattle.eden_fuse_format.specs.declared.answer.Answer.TheVariants as answer
@@ -16,8 +18,10 @@ use Rattle.eden_fuse_shown.specs.Listing.{Entry}
 use Rattle.eden_fuse_shown.specs.Naming.{last_name, veiled_name}
 use Rattle.eden_fuse_shown.specs.Opens.{opens_of, is_last}
 use Rattle.eden_fuse_shown.specs.Running.{Replying}
-use Rattle.eden_fuse_shown.specs.Waiting.{may_wait}
-use Rattle.eden_fuse_shown.specs.Showing.{Once, Settles, Unless, WaitsElse, WaitsIf}
+use Rattle.eden_fuse_shown.specs.Waiting.{gap_of, may_wait}
+use Rattle.eden_fuse_shown.specs.Waiting.{Table as Waits}
+use Rattle.eden_fuse_shown.specs.declared.extents.Gap.{Gap}
+use Rattle.eden_fuse_shown.specs.Showing.{BridgesElse, BridgesIf, Finds, LooksBetween, Once, Settles, Unless, WaitsElse, WaitsIf}
 use Rattle.eden_fuse_shown.specs.Showing.{Showing, Runs, LetsGo, Restores, ReplacesBy, IsAsked, IsClosed, Empties, ClosesFile, Clears, ClearsRow, ClearsRows, failed, refuse, rows_in, say}
 
 -- an error is no bytes of a room
@@ -96,3 +100,28 @@ module _ {S : Type 0} (answers : Replying S) where
     waits_not same is refused h =
         subst (λ (x : List ℕ). WaitsElse answers node offset x Else old t new) same
         (subst (λ (v : Bool). WaitsIf answers v node offset bytes Else old t new) (sym (sym is ∙ refused)) h)
+
+  -- ---- what is written doesn't join what waits
+
+  module _ (node offset : ℕ) (b bytes : List ℕ) (gap : Option Gap) (Else : Showing S → Told → Showing S → Type 0) (old mid new : Showing S) (t : Told) where
+    abbrev LooksFor : Option (List ℕ) → Type 0
+    LooksFor found = LooksBetween answers node gap old found mid
+
+    looks_for : (found : Option (List ℕ)) → gap ≡ gap_of old.waits node offset bytes → LooksFor found → LooksBetween answers node (gap_of old.waits node offset bytes) old found mid
+    looks_for found is looks = subst (λ (g : Option Gap). LooksBetween answers node g old found mid) is looks
+
+    -- .. and what lies between was looked for
+    pub bridges : (found : Option (List ℕ)) → bytes ≡ b → gap ≡ gap_of old.waits node offset bytes → LooksFor found
+        → BridgesIf answers found node offset b Else mid t new → BridgesElse answers node offset b Else old t new
+    bridges found same is looks h =
+        (found, mid, subst (λ (x : List ℕ). LooksBetween answers node (gap_of old.waits node offset x) old found mid) same (looks_for found is looks), h)
+
+    none_found : (g : Option Gap) (between : List ℕ) → Finds answers g old.nodes node old.mount (Some between) mid.mount → IsSome g
+    none_found None between h = absurd (false≢true (sym (ap (λ (o : Option (List ℕ)). is_some o) h.0)))
+    none_found (Some g) between h = refl
+
+    -- where it was read, there is a gap
+    pub some_gap : (between : List ℕ) → bytes ≡ b → gap ≡ gap_of old.waits node offset bytes → LooksFor (Some between) → IsSome (gap_of mid.waits node offset b)
+    some_gap between same is looks =
+        subst (λ (x : List ℕ). IsSome (gap_of mid.waits node offset x)) same
+        (subst (λ (w : Waits). IsSome (gap_of w node offset bytes)) (sym looks.waits) (subst (λ (g : Option Gap). IsSome g) is (none_found gap between looks.finds)))

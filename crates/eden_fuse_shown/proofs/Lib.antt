@@ -2,7 +2,10 @@ mod Leading
 mod Keeping
 mod Amounts
 mod Contents
+mod Bridging
+mod Gathering
 mod Seen
 mod Stores
 mod SeenLaws
+mod BridgeLaws
 mod Syncing

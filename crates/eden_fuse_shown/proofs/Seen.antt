@@ -27,7 +27,7 @@ use Rattle.eden_fuse_shown.proofs.Contents.{written_again, written_into}
 
 -- ---- the node at a path
 
-both : (a b : Bool) → (a && b) ≡ true → (a ≡ true) × (b ≡ true)
+pub both : (a b : Bool) → (a && b) ≡ true → (a ≡ true) × (b ≡ true)
 both true b h = (refl, h)
 both false b h = absurd (false≢true h)
 

@@ -23,10 +23,10 @@ use Rattle.eden_fuse_shown.proofs.Stores.{stored_made}
 -- ---- a tree that is edited at a path
 
 module _ (F : Tree) (p : Path) (f : Node → Node) where
-  edited_there : edit F p f p ≡ option_map f (F p)
+  pub edited_there : edit F p f p ≡ option_map f (F p)
   edited_there = ap (λ (b : Bool). cond b (option_map f (F p)) (F p)) ((path_eq-Decides p p).1 refl)
 
-  edited_elsewhere : (q : Path) → path_eq p q ≡ false → edit F p f q ≡ F q
+  pub edited_elsewhere : (q : Path) → path_eq p q ≡ false → edit F p f q ≡ F q
   edited_elsewhere q other = ap (λ (b : Bool). cond b (option_map f (F p)) (F q)) other
 
 -- ---- what waits for one node is changed
@@ -40,13 +40,13 @@ module _ (one : OneNode) (lone : OnePath) (nodes : Nodes) (whole : IsTable nodes
   ]
 
   -- .. for which the same waits
-  elsewhere : (old new : Waits) (change : Option Extent → Option Extent) (q : Path)
+  pub elsewhere : (old new : Waits) (change : Option Extent → Option Extent) (q : Path)
       → ((i : ℕ) → extent_of new i ≡ cond (i == node) (change (extent_of old i)) (extent_of old i)) → path_eq p q ≡ false
       → waits_at nodes new q ≡ waits_at nodes old q
   elsewhere old new change q changed differs = same_there one nodes whole old new q (λ i there.
       changed i ∙ ap (λ (b : Bool). cond b (change (extent_of old i)) (extent_of old i)) (other q i differs there))
 
-  there : (old new : Waits) (change : Option Extent → Option Extent)
+  pub there : (old new : Waits) (change : Option Extent → Option Extent)
       → ((i : ℕ) → extent_of new i ≡ cond (i == node) (change (extent_of old i)) (extent_of old i)) → waits_at nodes new p ≡ change (extent_of old node)
   there old new change changed =
       at_node one nodes whole new node p lies
@@ -55,7 +55,7 @@ module _ (one : OneNode) (lone : OnePath) (nodes : Nodes) (whole : IsTable nodes
 
 module _ {S : Type 0} (answers : Replying S) (tree : S → Tree) (one : OneNode) (lone : OnePath) (put : DataIsWritten) (stay : OldBytesStay) (long : WrittenLength) where
   -- of one part after another
-  apart : (old new : Showing S) (q : Path) (F : Tree) (ws : Waits) → new.nodes ≡ old.nodes → new.waits ≡ ws → tree new.mount ≡ F
+  pub apart : (old new : Showing S) (q : Path) (F : Tree) (ws : Waits) → new.nodes ≡ old.nodes → new.waits ≡ ws → tree new.mount ≡ F
       → seen answers tree new q ≡ seen_tree F old.nodes ws q
   apart old new q F ws nodes waits is =
       ap (λ (n : Nodes). seen_tree (tree new.mount) n new.waits q) nodes

@@ -24,9 +24,15 @@ use Rattle.eden_fuse_shown.specs.Showing.{IsPathOf, IsStored, storing, unstored}
 use Rattle.eden_fuse_shown.specs.Waiting.{Extent}
 use Rattle.eden_fuse_shown.specs.Seeing.{Follows}
 
--- ---- the tree after a store
+-- ---- what a reply comes to
 
-after_reply : (F : Tree) (q : Request) (r : Reply) → (after F q r ≡ F) ⊎ (after F q r ≡ done F q)
+module _ {S : Type 0} (answers : Replying S) where
+  -- nothing more is asked where an outcome is told
+  pub told_end : (o : Outcome) (replies : List Reply) (u t : S) (end : Result Outcome Unheard) → Leads answers (Tell o) replies u end t → (t ≡ u) × (end ≡ Ok o)
+  told_end o [] u t end h = h
+  told_end o (x ∷ xs) u t end h = absurd h
+
+pub after_reply : (F : Tree) (q : Request) (r : Reply) → (after F q r ≡ F) ⊎ (after F q r ≡ done F q)
 after_reply F q say.Ok = inr refl
 after_reply F q (say.Kind k) = inr refl
 after_reply F q (say.Stat k size n) = inr refl
@@ -36,6 +42,8 @@ after_reply F q (say.Entries es more) = inr refl
 after_reply F q (say.Err e) = inl refl
 after_reply F q (say.Fault f) = inl refl
 
+-- ---- the tree after a store
+
 abbrev path_or_root : Result Path ℕ → Path
 path_or_root (Ok p) = p
 path_or_root (Err e) = []
@@ -44,7 +52,8 @@ abbrev has_path : Result Path ℕ → Bool
 has_path (Ok p) = true
 has_path (Err e) = false
 
-by_where : (nodes : Nodes) (node : ℕ) (p : Path) (w : Whereabouts) → IsWhere nodes node w → Ok p ≡ path_in w → LiesAt nodes node p
+-- where a node lies that has a path
+pub by_where : (nodes : Nodes) (node : ℕ) (p : Path) (w : Whereabouts) → IsWhere nodes node w → Ok p ≡ path_in w → LiesAt nodes node p
 by_where nodes node p (At path) is same = subst (λ (x : Path). LiesAt nodes node x) (sym (ap path_or_root same)) is
 by_where nodes node p TooFar is same = absurd (false≢true (sym (ap has_path same)))
 by_where nodes node p Nowhere is same = absurd (false≢true (sym (ap has_path same)))
@@ -70,10 +79,6 @@ module _ {S : Type 0} (answers : Replying S) (tree : S → Tree) (follows : Foll
   unheard_made p s t why end unheard.Memory lies heard ends is =
       made p heard.0 s t why 12 lies (follows s (what p) (Ok heard.0) t heard.1) (is ∙ ap (λ (x : Result Outcome Unheard). unstored x) ends)
 
-  told_end : (o : Outcome) (replies : List Reply) (u t : S) (end : Result Outcome Unheard) → Leads answers (Tell o) replies u end t → (t ≡ u) × (end ≡ Ok o)
-  told_end o [] u t end h = h
-  told_end o (x ∷ xs) u t end h = absurd h
-
   refused_made : (p : Path) (r : Reply) (s u t : S) (why : Option ℕ) (end : Result Outcome Unheard) (errno : ℕ) → LiesAt nodes node p → tree u ≡ after (tree s) (what p) r
       → (t ≡ u) × (end ≡ Ok (outcome.Refused errno)) → why ≡ unstored end → Made s why t
   refused_made p r s u t why end errno lies is ended told =
@@ -81,25 +86,25 @@ module _ {S : Type 0} (answers : Replying S) (tree : S → Tree) (follows : Foll
 
   replied : (p : Path) (r : Reply) (replies : List Reply) (s u t : S) (why : Option ℕ) (end : Result Outcome Unheard) → LiesAt nodes node p
       → tree u ≡ after (tree s) (what p) r → Leads answers (next awaited.Count r) replies u end t → why ≡ unstored end → Made s why t
-  replied p (say.Count n) replies s u t why end lies is leads told = inr (p, lies, ap tree (told_end (outcome.Written n) replies u t end leads).0 ∙ is)
+  replied p (say.Count n) replies s u t why end lies is leads told = inr (p, lies, ap tree (told_end answers (outcome.Written n) replies u t end leads).0 ∙ is)
   replied p (say.Err x) replies s u t why end lies is leads told =
-      refused_made p (say.Err x) s u t why end (errno_number x) lies is (told_end (outcome.Refused (errno_number x)) replies u t end leads) told
-  replied p say.Ok replies s u t why end lies is leads told = refused_made p say.Ok s u t why end 5 lies is (told_end (outcome.Refused 5) replies u t end leads) told
+      refused_made p (say.Err x) s u t why end (errno_number x) lies is (told_end answers (outcome.Refused (errno_number x)) replies u t end leads) told
+  replied p say.Ok replies s u t why end lies is leads told = refused_made p say.Ok s u t why end 5 lies is (told_end answers (outcome.Refused 5) replies u t end leads) told
   replied p (say.Kind k) replies s u t why end lies is leads told =
-      refused_made p (say.Kind k) s u t why end 5 lies is (told_end (outcome.Refused 5) replies u t end leads) told
+      refused_made p (say.Kind k) s u t why end 5 lies is (told_end answers (outcome.Refused 5) replies u t end leads) told
   replied p (say.Stat k size n) replies s u t why end lies is leads told =
-      refused_made p (say.Stat k size n) s u t why end 5 lies is (told_end (outcome.Refused 5) replies u t end leads) told
+      refused_made p (say.Stat k size n) s u t why end 5 lies is (told_end answers (outcome.Refused 5) replies u t end leads) told
   replied p (say.Data d) replies s u t why end lies is leads told =
-      refused_made p (say.Data d) s u t why end 5 lies is (told_end (outcome.Refused 5) replies u t end leads) told
+      refused_made p (say.Data d) s u t why end 5 lies is (told_end answers (outcome.Refused 5) replies u t end leads) told
   replied p (say.Entries es more) replies s u t why end lies is leads told =
-      refused_made p (say.Entries es more) s u t why end 5 lies is (told_end (outcome.Refused 5) replies u t end leads) told
+      refused_made p (say.Entries es more) s u t why end 5 lies is (told_end answers (outcome.Refused 5) replies u t end leads) told
   replied p (say.Fault f) replies s u t why end lies is leads told =
-      refused_made p (say.Fault f) s u t why end 5 lies is (told_end (outcome.Refused 5) replies u t end leads) told
+      refused_made p (say.Fault f) s u t why end 5 lies is (told_end answers (outcome.Refused 5) replies u t end leads) told
 
   asked_made : (at : Result Path ℕ) (replies : List Reply) (s t : S) (why : Option ℕ) (end : Result Outcome Unheard) → IsPathOf nodes node at
       → Leads answers (storing at e) replies s end t → why ≡ unstored end → Made s why t
   asked_made (Err errno) replies s t why end is leads told =
-      let ended = told_end (outcome.Refused errno) replies s t end leads in
+      let ended = told_end answers (outcome.Refused errno) replies s t end leads in
       inl (ap tree ended.0, (errno, told ∙ ap (λ (x : Result Outcome Unheard). unstored x) ended.1))
   asked_made (Ok p) [] s t why end is leads told =
       unheard_made p s t why end leads.0 (by_where nodes node p is.0 is.1 is.2) leads.1 leads.2 told

@@ -1,4 +1,5 @@
 pub mod Running
+pub mod Reading
 pub mod Attributes
 pub mod Opens
 pub mod Waiting

@@ -8,7 +8,8 @@ use Rattle.eden_model.specs.declared.reply.Reply.{Reply}
 use Rattle.eden_model.specs.declared.reply.Reply.TheVariants as say
 use Rattle.eden_model.specs.declared.request.Request.{Request}
 use Rattle.eden_model.specs.declared.request.Request.TheVariants as ask
-use Rattle.eden_model.specs.Operations.{after, with_content, written}
+use Rattle.eden_model.specs.Histories.{fault_of}
+use Rattle.eden_model.specs.Operations.{Replies, after, with_content, written}
 use Rattle.eden_model.specs.Trees.{Name, Path, Tree}
 use Rattle.eden_fuse_format.specs.declared.message.Header.{Header}
 use Rattle.eden_fuse_format.specs.declared.structs.FSyncIn.{FSyncIn}
@@ -19,8 +20,9 @@ use Rattle.eden_fuse_nodes.specs.Tables.{Table as Nodes}
 use Rattle.eden_fuse_nodes.specs.Ways.{LiesAt}
 use Rattle.eden_fuse_session.specs.Turns.{Told}
 use Rattle.eden_fuse_shown.specs.Running.{Replying, Syncing}
-use Rattle.eden_fuse_shown.specs.Showing.{Showing, Joins, Settles, Shows, failed}
-use Rattle.eden_fuse_shown.specs.Waiting.{Extent, can_join, extent_of}
+use Rattle.eden_fuse_shown.specs.declared.extents.Gap.{Gap}
+use Rattle.eden_fuse_shown.specs.Showing.{Showing, Joins, JoinsOver, LooksBetween, Settles, Shows, failed}
+use Rattle.eden_fuse_shown.specs.Waiting.{Extent, can_join, extent_of, gap_of}
 use Rattle.eden_fuse_shown.specs.Waiting.{Table as Waits}
 
 -- ---- the node at a path
@@ -68,6 +70,10 @@ module _ {S : Type 0} (answers : Replying S) (tree : S → Tree) where
   abbrev pub Follows : Type 0
   Follows = (s : S) (q : Request) (r : Result Reply CallFault) (t : S) → answers s q r t → tree t ≡ tree_after (tree s) q r
 
+  -- its replies are what its tree says
+  abbrev pub Tells : Type 0
+  Tells = (s : S) (q : Request) (r : Reply) (t : S) → answers s q (Ok r) t → fault_of r ≡ None → Replies (tree s) q r
+
   -- what is seen
   abbrev pub seen : Showing S → Tree
   seen s = seen_tree (tree s.mount) s.nodes s.waits
@@ -77,6 +83,17 @@ module _ {S : Type 0} (answers : Replying S) (tree : S → Tree) where
   WaitsAsWritten = (node offset : ℕ) (b : List ℕ) (old new : Showing S) (t : Told) (p q : Path) → IsTable old.nodes
       → can_join (extent_of old.waits node) offset ≡ true → Joins answers node offset b old t new → LiesAt old.nodes node p
       → seen new q ≡ after (seen old) (ask.Patch p offset b) (say.Count (length b)) q
+
+  -- to look at what lies between changes nothing that is seen
+  abbrev pub LooksUnseen : Type 0
+  LooksUnseen = Follows → (node : ℕ) (gap : Option Gap) (old new : Showing S) (found : Option (List ℕ)) (q : Path)
+      → LooksBetween answers node gap old found new → seen new q ≡ seen old q
+
+  -- .. and a write that waits with that makes of what is seen what a mount's patch makes of its tree
+  abbrev pub BridgesAsWritten : Type 0
+  BridgesAsWritten = Follows → Tells → (node offset : ℕ) (b between : List ℕ) (old mid new : Showing S) (t : Told) (p q : Path) → IsTable old.nodes
+      → LooksBetween answers node (gap_of old.waits node offset b) old (Some between) mid → JoinsOver answers node offset between b mid t new
+      → LiesAt old.nodes node p → seen new q ≡ after (seen old) (ask.Patch p offset b) (say.Count (length b)) q
 
   -- to store what waits changes nothing that is seen, whether the mount does it, refuses it, or isn't heard
   abbrev pub StoresUnseen : Type 0

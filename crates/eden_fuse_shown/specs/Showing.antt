@@ -28,6 +28,7 @@ use Rattle.eden_fuse_meaning.specs.declared.step.Then.TheVariants as after
 use Rattle.eden_fuse_meaning.specs.Steps.{first, on_path}
 use Rattle.eden_fuse_session.specs.Turns.{Told}
 use Rattle.eden_fuse_format.specs.Answers.{body_text, error_of}
+use Rattle.eden_fuse_shown.specs.declared.extents.Gap.{Gap}
 use Rattle.eden_fuse_shown.specs.declared.manner.Manner.{Manner}
 use Rattle.eden_fuse_shown.specs.declared.mount.Unheard.{Unheard}
 use Rattle.eden_fuse_shown.specs.declared.mount.Unheard.TheVariants as unheard
@@ -43,8 +44,9 @@ use Rattle.eden_fuse_shown.specs.Naming.{named, goal_of, other_node, veiled_name
 use Rattle.eden_fuse_shown.specs.Opens.{Raises, Lowers, opens_of, is_last}
 use Rattle.eden_fuse_shown.specs.Opens.{Table as Opens}
 use Rattle.eden_fuse_shown.specs.Opens.{IsSame as IsSameOpens}
+use Rattle.eden_fuse_shown.specs.Reading.{Gathers}
 use Rattle.eden_fuse_shown.specs.Running.{Replying, Syncing, Comes}
-use Rattle.eden_fuse_shown.specs.Waiting.{Extent, Adds, Ends, extent_of, may_wait}
+use Rattle.eden_fuse_shown.specs.Waiting.{Extent, Adds, Bridges, Ends, extent_of, gap_of, may_wait}
 use Rattle.eden_fuse_shown.specs.Waiting.{Table as Waits}
 
 -- a mounted folder: the mount, how it is shown, the nodes that the kernel was told of, the directories and files that are open,
@@ -173,6 +175,11 @@ unstored (Ok (outcome.Written n)) = None
 unstored (Ok (outcome.Refused errno)) = Some errno
 unstored (Ok o) = Some 5
 unstored (Err why) = Some (errno_of why)
+
+-- of one store and the others after it: the number of the first error
+abbrev pub first_error : Option ℕ → Option ℕ → Option ℕ
+first_error None others = others
+first_error (Some errno) others = Some errno
 
 abbrev pub Leaves : Option ℕ → ℕ → Waits → Waits → Type 0
 Leaves None node old new = Ends old new node
@@ -356,13 +363,49 @@ module _ {S : Type 0} (answers : Replying S) where
   abbrev pub WaitsElse : ℕ → ℕ → List ℕ → (Showing S → Told → Showing S → Type 0) → Showing S → Told → Showing S → Type 0
   WaitsElse node offset b Else old t new = WaitsIf (may_wait old.waits node offset b) node offset b Else old t new
 
-  -- what is written waits with what waits; if it doesn't begin in that or at its end, that is stored first; and what can't wait by itself
-  -- either is stored at once
+  -- what lies between what waits for a node and an offset was read; or there is no such gap, or it couldn't be read
+  abbrev pub Finds : Option Gap → Nodes → ℕ → S → Option (List ℕ) → S → Type 0
+  Finds None nodes node s found t = (found ≡ None) × (t ≡ s)
+  Finds (Some gap) nodes node s found t = ((found ≡ None) × (t ≡ s))
+      ⊎ ((p : Path) × IsPathOf nodes node (Ok p) × Gathers answers p gap.from gap.len s found t)
+
+  pub record LooksBetween (node : ℕ) (gap : Option Gap) (old : Showing S) (found : Option (List ℕ)) (new : Showing S) : Type 0 where
+    pub finds : Finds gap old.nodes node old.mount found new.mount
+    pub manner : new.manner ≡ old.manner
+    pub nodes : new.nodes ≡ old.nodes
+    pub pages : new.pages ≡ old.pages
+    pub opens : new.opens ≡ old.opens
+    pub waits : new.waits ≡ old.waits
+
+  -- bytes wait with those of their node, and with what the file has between them
+  pub record JoinsOver (node offset : ℕ) (between b : List ℕ) (old : Showing S) (t : Told) (new : Showing S) : Type 0 where
+    pub waits : Bridges old.waits new.waits node offset between b
+    pub told : t ≡ count (length b)
+    pub mount : new.mount ≡ old.mount
+    pub manner : new.manner ≡ old.manner
+    pub nodes : new.nodes ≡ old.nodes
+    pub pages : new.pages ≡ old.pages
+    pub opens : new.opens ≡ old.opens
+
+  -- .. if that was read, and there is memory for it; else this is done
+  abbrev pub BridgesIf : Option (List ℕ) → ℕ → ℕ → List ℕ → (Showing S → Told → Showing S → Type 0) → Showing S → Told → Showing S → Type 0
+  BridgesIf None node offset b Else old t new = Else old t new
+  BridgesIf (Some between) node offset b Else old t new = JoinsOver node offset between b old t new ⊎ Else old t new
+
+  abbrev pub BridgesElse : ℕ → ℕ → List ℕ → (Showing S → Told → Showing S → Type 0) → Showing S → Told → Showing S → Type 0
+  BridgesElse node offset b Else old t new = (found : Option (List ℕ)) × (mid : Showing S)
+      × LooksBetween node (gap_of old.waits node offset b) old found mid × BridgesIf found node offset b Else mid t new
+
+  -- what is written waits with what waits; if it doesn't begin in that or at its end, with what the file has between them; if that can't
+  -- be, what waits is stored first; and what can't wait by itself either is stored at once
   abbrev pub WritesAnew : ℕ → ℕ → Asked → Showing S → Told → Showing S → Type 0
   WritesAnew node offset a old t new = WaitsElse node offset (data_of a) (Runs node a None) old t new
 
+  abbrev pub WritesApart : ℕ → ℕ → Asked → Showing S → Told → Showing S → Type 0
+  WritesApart node offset a old t new = BridgesElse node offset (data_of a) (Once (Some node) (WritesAnew node offset a)) old t new
+
   abbrev pub Writes : ℕ → ℕ → Asked → Showing S → Told → Showing S → Type 0
-  Writes node offset a old t new = WaitsElse node offset (data_of a) (Once (Some node) (WritesAnew node offset a)) old t new
+  Writes node offset a old t new = WaitsElse node offset (data_of a) (WritesApart node offset a) old t new
 
   -- ---- what is removed or replaced while it is open
 
@@ -463,10 +506,12 @@ module _ {S : Type 0} (answers : Replying S) where
 
   -- ---- the end
 
-  -- all that waits is stored, or dropped where that can't be
-  abbrev pub StoresAll : Nodes → Waits → S → S → Type 0
-  StoresAll nodes [] s t = t ≡ s
-  StoresAll nodes (w ∷ ws) s t = (why : Option ℕ) × (u : S) × IsStored nodes w.0 w.1 s why u × StoresAll nodes ws u t
+  -- All that waits is stored, or dropped where that can't be, and the number of the first error is told. The others are stored
+  -- all the same.
+  abbrev pub StoresAll : Nodes → Waits → S → Option ℕ → S → Type 0
+  StoresAll nodes [] s why t = (why ≡ None) × (t ≡ s)
+  StoresAll nodes (w ∷ ws) s why t = (one : Option ℕ) × (others : Option ℕ) × (u : S)
+      × IsStored nodes w.0 w.1 s one u × StoresAll nodes ws u others t × (why ≡ first_error one others)
 
 -- ---- the disk
 

@@ -1,18 +1,45 @@
 // Bytes that wait to be stored.
-ghost use Rattle.std.specs.Prelude.{◌≡◌, ◌≤◌, ◌+◌, ℕ, None, Some, true, length, IfOk, IsSome, OnErr, OnOk};
+ghost use Rattle.std.specs.Prelude.{
+  ◌≡◌,
+  ◌≤◌,
+  ◌<◌,
+  ◌+◌,
+  ◌-◌,
+  ◌++◌,
+  ℕ,
+  None,
+  Some,
+  false,
+  true,
+  length,
+  IfOk,
+  IfSome,
+  IsSome,
+  OnErr,
+  OnOk,
+};
 ghost use Rattle.std.specs.Option.{option_map};
-ghost use Rattle.eden_model.specs.Operations.{written};
+ghost use Rattle.eden_model.specs.Limits.{most_file};
+ghost use Rattle.eden_model.specs.Operations.{resized, written};
 ghost use Rattle.eden_fuse_shown.specs.Waiting.{
   Adds,
+  Bridges,
   Ends,
+  across,
   all_of,
+  bridged,
   can_join,
   extent_of,
+  gap_at,
+  gap_of,
+  has_room,
   joined,
   may_wait,
+  most_bridged,
+  most_waiting,
 };
 
-use eden_model::SharedBytes;
+use eden_model::{SharedBytes, change_laws};
 use std::alloc::{AllocError, Global};
 use std::collections::BTreeMap;
 use std::marker::Model;
@@ -20,8 +47,18 @@ use std::marker::Model;
 /// The most bytes of all extents together: 128 MiB.
 const MOST_WAITING: u64 = 128 << 20;
 
+/// The most bytes of all extents together once one has other bytes of its file in it: 64 MiB.
+const MOST_BRIDGED: u64 = 64 << 20;
+
 /// The longest file.
 const MOST_FILE: u64 = 1 << 30;
+
+/// What lies between bytes that wait and others: where it begins, and how many bytes it has.
+#[derive(Clone, Copy, Debug, PartialEq, Eq)]
+pub struct Gap {
+    pub from: u64,
+    pub len: u64,
+}
 
 /// Bytes of a file, from an offset on. Contracts see both.
 #[derive(Drop)]
@@ -94,28 +131,102 @@ impl Extent {
         ensures err { OnErr result (self.new ≡ self.old) }
     {
         let before = self.len();
-        let at = (from - self.from) as usize;
-        if at == self.bytes.len() {
-            self.bytes.append(alloc, bytes)?;
+        self.bytes.write(alloc, (from - self.from) as usize, bytes)?;
+        Ok(self.len() - before)
+    }
+
+    // What lies between it and an offset.
+    fn gap_at(&self, from: u64) -> Gap
+        requires { self.now.from + length self.now.bytes ≤ most_file }
+        ensures { result ≡ gap_at self.now from }
+    {
+        let end = self.from + self.len();
+        if from < self.from {
+            Gap {
+                from,
+                len: self.from - from,
+            }
         } else {
-            let content = overwritten(alloc, self.bytes.as_slice(), at, bytes)?;
-            self.bytes = SharedBytes::new(alloc, content)?;
+            Gap {
+                from: end,
+                len: from.saturating_sub(end),
+            }
+        }
+    }
+
+    // Writes bytes in front of it, with what the file has between them. Without memory nothing changes.
+    fn begin_at(
+        &mut self,
+        alloc: Global,
+        from: u64,
+        between: Vec<u8>,
+        bytes: &[u8],
+    ) -> Result<(), AllocError>
+        requires { from < self.old.from }
+        ensures ok { OnOk result (self.new ≡ joined (Some (bridged self.old from between.items)) from bytes.now) }
+        ensures err { OnErr result (self.new ≡ self.old) }
+    {
+        let content = filled(between, (self.from - from) as usize, self.bytes.as_slice())?;
+        let mut content = SharedBytes::new(alloc, content)?;
+        content.write(alloc, 0, bytes)?;
+        self.bytes = content;
+        self.from = from;
+        Ok(())
+    }
+
+    // .. behind it.
+    fn go_on_at(
+        &mut self,
+        alloc: Global,
+        from: u64,
+        between: Vec<u8>,
+        bytes: &[u8],
+    ) -> Result<(), AllocError>
+        requires end { self.old.from + length self.old.bytes ≤ most_file }
+        requires apart { self.old.from + length self.old.bytes ≤ from }
+        requires some { 0 < length bytes.now }
+        ensures ok { OnOk result (self.new ≡ joined (Some (bridged self.old from between.items)) from bytes.now) }
+        ensures err { OnErr result (self.new ≡ self.old) }
+    {
+        change_laws();
+        let rest = filled(between, self.gap_at(from).len as usize, bytes)?;
+        self.bytes.write(alloc, self.bytes.len(), rest.as_slice())
+    }
+
+    // Writes bytes that don't join it into it, with what the file has between them; how many bytes more it has then.
+    // Without memory nothing changes.
+    fn bridge(
+        &mut self,
+        alloc: Global,
+        from: u64,
+        between: Vec<u8>,
+        bytes: &[u8],
+    ) -> Result<u64, AllocError>
+        requires apart { can_join (Some self.old) from ≡ false }
+        requires end { self.old.from + length self.old.bytes ≤ most_file }
+        requires some { 0 < length bytes.now }
+        ensures ok { OnOk result (self.new ≡ joined (Some (bridged self.old from between.items)) from bytes.now) }
+        ensures more { IfOk result (λ n. length self.new.bytes ≡ length self.old.bytes + n) }
+        ensures most { IfOk result (λ n. n ≤ (gap_at self.old from).len + length bytes.now) }
+        ensures err { OnErr result (self.new ≡ self.old) }
+    {
+        let before = self.len();
+        if from < self.from {
+            self.begin_at(alloc, from, between, bytes)?;
+        } else {
+            self.go_on_at(alloc, from, between, bytes)?;
         }
         Ok(self.len() - before)
     }
 }
 
-// Other bytes from a place on that isn't behind the end, and behind them what was there.
-fn overwritten(alloc: Global, old: &[u8], at: usize, bytes: &[u8]) -> Result<Vec<u8>, AllocError>
-    requires { at ≤ length old.now }
-    ensures { IfOk result (λ v. v.items ≡ written at bytes.now old.now) }
+// What lies between, cut to so many bytes or with zeros up to them, and others behind it.
+fn filled(mut between: Vec<u8>, len: usize, behind: &[u8]) -> Result<Vec<u8>, AllocError>
+    ensures { IfOk result (λ v. v.items ≡ resized len between.items ++ behind.now) }
 {
-    let end = at.saturating_add(bytes.len()).min(old.len());
-    let mut content = Vec::with_capacity(alloc, old.len().saturating_add(bytes.len()))?;
-    content.extend_from_slice(&old[..at])?;
-    content.extend_from_slice(bytes)?;
-    content.extend_from_slice(&old[end..])?;
-    Ok(content)
+    between.resize(len, 0)?;
+    between.extend_from_slice(behind)?;
+    Ok(between)
 }
 
 // What waits of each node is changed at one node.
@@ -158,6 +269,47 @@ fn write_into(
     match extents.get_mut(&node) {
         None => Ok(0),
         Some(extent) => extent.write(alloc, from, bytes),
+    }
+}
+
+// Whether there is room, beside so many bytes, for others that don't join an extent and for what lies between.
+fn has_room(all: u64, extent: &Extent, from: u64, bytes: &[u8]) -> bool
+    requires { all ≤ most_waiting }
+    ensures room { result ≡ has_room all extent.now from bytes.now }
+    ensures fits { result ≡ true → (extent.now.from + length extent.now.bytes ≤ most_file) × (from ≤ most_file) }
+{
+    let len = bytes.len() as u64;
+    if extent.can_join(from) || extent.len() == 0 || len == 0 {
+        return false;
+    }
+    if extent.from > MOST_FILE || extent.len() > MOST_FILE - extent.from {
+        return false;
+    }
+    if from > MOST_FILE || len > MOST_FILE - from {
+        return false;
+    }
+    all + extent.gap_at(from).len + len <= MOST_BRIDGED
+}
+
+// Bytes are written into a node's extent that they don't join; how many bytes more it has then. Without memory nothing
+// changes.
+fn bridge_into(
+    extents: &mut BTreeMap<u64, Extent>,
+    alloc: Global,
+    node: u64,
+    from: u64,
+    between: Vec<u8>,
+    bytes: &[u8],
+) -> Result<u64, AllocError>
+    requires { IsSome (gap_of extents.old.entries node from bytes.now) }
+    ensures ok { OnOk result (Bridges extents.old.entries extents.new.entries node from between.items bytes.now) }
+    ensures more { IfOk result (λ n. all_of extents.new.entries ≡ all_of extents.old.entries + n) }
+    ensures most { IfOk result (λ n. all_of extents.old.entries + n ≤ most_bridged) }
+    ensures err { OnErr result (extents.new.entries ≡ extents.old.entries) }
+{
+    match extents.get_mut(&node) {
+        None => Ok(0),
+        Some(extent) => extent.bridge(alloc, from, between, bytes),
     }
 }
 
@@ -246,6 +398,38 @@ impl Extents {
             begin(&mut self.extents, alloc, node, from, bytes)?;
             self.all += bytes.len() as u64;
         }
+        Ok(())
+    }
+
+    /// What lies between what waits for a node and bytes from an offset on that don't join it. None if they do, if
+    /// there are none, and if there is no room for all of that.
+    pub fn gap(&self, node: u64, from: u64, bytes: &[u8]) -> Option<Gap>
+        ensures gap { result ≡ gap_of self.now node from bytes.now }
+        ensures fits { IfSome result (λ g. (g.from ≤ most_file) × (g.len ≤ most_file)) }
+    {
+        let extent = self.extents.get(&node)?;
+        if has_room(self.all, extent, from, bytes) {
+            Some(extent.gap_at(from))
+        } else {
+            None
+        }
+    }
+
+    /// Bytes wait with those of the node that they don't join, and with what the file has between them. Without memory
+    /// nothing changes.
+    pub fn bridge(
+        &mut self,
+        alloc: Global,
+        node: u64,
+        from: u64,
+        between: Vec<u8>,
+        bytes: &[u8],
+    ) -> Result<(), AllocError>
+        requires { IsSome (gap_of self.old node from bytes.now) }
+        ensures ok { OnOk result (Bridges self.old self.new node from between.items bytes.now) }
+        ensures err { OnErr result (self.new ≡ self.old) }
+    {
+        self.all += bridge_into(&mut self.extents, alloc, node, from, between, bytes)?;
         Ok(())
     }
 

@@ -10,10 +10,12 @@
 //! 1,000 of them, goes as the next one starts.
 //!
 //! What is written waits: a write is answered at once, and the bytes of one after another are stored together, before
-//! anyone looks at the file, at `close` and `fsync`, and where there are too many of them. If that fails, whoever
-//! looked is told the error, and they wait still; only the last close drops them. An `fsync`, of a file or a directory,
-//! asks the mount then to wait for the disk, and is told an error where the mount doesn't know that nothing could be
-//! lost. Which times are told isn't promised. Nothing here reads or writes a descriptor.
+//! anyone looks at the file, at `close` and `fsync`, and where there are too many of them. Pieces that lie apart wait
+//! with what the file has between them. If a store fails, whoever looked is told the error, and they wait still; only
+//! the last close drops them, and the session's end, at which all that waits is stored: whoever takes the mount back
+//! then is told the first error. An `fsync`, of a file or a directory, asks the mount then to wait for the disk, and is
+//! told an error where the mount doesn't know that nothing could be lost. Which times are told isn't promised. Nothing
+//! here reads or writes a descriptor.
 #![tactic(auto)]
 
 mod attributes;
@@ -28,13 +30,14 @@ mod mount;
 mod naming;
 mod opens;
 mod pages;
+mod reading;
 mod running;
 mod shown;
 mod sorts;
 mod storing;
 mod times;
 
-pub use extents::{Extent, Extents};
+pub use extents::{Extent, Extents, Gap};
 pub use laws::seeing_laws;
 pub use manner::Manner;
 pub use mount::{Mount, Unheard};

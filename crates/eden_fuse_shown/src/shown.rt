@@ -1,4 +1,21 @@
-ghost use Rattle.std.specs.Prelude.{◌≡◌, ◌⊎◌, ℕ, IfSome, None, Some, true, OnErr, OnOk, Result, length};
+ghost use Rattle.std.specs.Prelude.{
+  ◌≡◌,
+  ◌⊎◌,
+  ◌≤◌,
+  ℕ,
+  IfSome,
+  IsSome,
+  None,
+  Some,
+  false,
+  true,
+  OnErr,
+  OnOk,
+  Result,
+  length,
+};
+ghost use Rattle.std.specs.Option.{option_map};
+ghost use Rattle.eden_model.specs.Limits.{most_file};
 ghost use Rattle.eden_fuse_format.specs.Asked.{seen};
 ghost use Rattle.eden_fuse_format.specs.Asked.{Asked as asked};
 ghost use Rattle.eden_fuse_meaning.specs.declared.step.Outcome.{Outcome};
@@ -11,6 +28,7 @@ ghost use Rattle.eden_fuse_shown.specs.Looking.{ChangesNothing};
 ghost use Rattle.eden_fuse_shown.specs.Opens.{is_last, opens_of};
 ghost use Rattle.eden_fuse_shown.specs.Naming.{goal_of, last_name, named, veiled_name};
 ghost use Rattle.eden_fuse_shown.specs.Showing.{
+  BridgesIf,
   Clears,
   ClearsRow,
   ClearsRows,
@@ -20,7 +38,9 @@ ghost use Rattle.eden_fuse_shown.specs.Showing.{
   IsClosed,
   IsEmptied,
   Joins,
+  JoinsOver,
   LetsGo,
+  LooksBetween,
   LooksUp,
   Once,
   Reads,
@@ -37,20 +57,24 @@ ghost use Rattle.eden_fuse_shown.specs.Showing.{
   Takes,
   Writes,
   WritesAnew,
+  WritesApart,
+  count,
+  data_of,
   rows_in,
 };
-ghost use Rattle.eden_fuse_shown.specs.Waiting.{may_wait};
+ghost use Rattle.eden_fuse_shown.specs.Waiting.{gap_of, may_wait};
 
 use crate::changing::forget_all;
 use crate::concluding::{conclude, count, failed, refuse, synced};
-use crate::extents::Extents;
+use crate::extents::{Extents, Gap};
 use crate::listing::rows_in;
 use crate::looking::look_before;
 use crate::manner::Manner;
 use crate::mount::Mount;
-use crate::naming::{begin, goal_of, held, is_veiled, named, standing, veiled_name};
+use crate::naming::{begin, goal_of, held, is_veiled, named, path_of, standing, veiled_name};
 use crate::opens::Opens;
 use crate::pages::Pages;
+use crate::reading::gather;
 use crate::running::run;
 use crate::sorts::{Sort, batch_of, data_of, denial, last_name, sort_of};
 use crate::storing::{store, store_all};
@@ -118,9 +142,10 @@ impl<M: Mount + Drop, K: Clock + Drop> Shown<M, K> {
         }
     }
 
-    /// Gives the mount back, once all that waits is stored; what it can't store is dropped.
-    pub fn into_mount(self) -> M
-        ensures { StoresAll M.answers self.nodes self.waits self.mount result }
+    /// Gives the mount back, once all that waits is stored. What it can't store is dropped: then the number of the
+    /// first error that a store met; None only if all was stored.
+    pub fn into_mount(self) -> (M, Option<u32>)
+        ensures { StoresAll M.answers self.nodes self.waits self.mount result.1 result.0 }
     {
         let Shown {
             alloc,
@@ -129,8 +154,8 @@ impl<M: Mount + Drop, K: Clock + Drop> Shown<M, K> {
             waits,
             ..
         } = self;
-        store_all(alloc, &mut mount, &nodes, waits);
-        mount
+        let unstored = store_all(alloc, &mut mount, &nodes, waits);
+        (mount, unstored)
     }
 
     /// A look that finds what a message's turn asks the mount first, and that changes nothing. Whoever makes it before
@@ -262,7 +287,111 @@ impl<M: Mount + Drop, K: Clock + Drop> Shown<M, K> {
         self.go(node, operation, place, goal, None, room)
     }
 
-    // What is written waits, and what waited is stored first if it doesn't go on there.
+    // What lies between what waits for a node and an offset; None if there is no such gap, or it can't be read.
+    fn look_between(&mut self, node: u64, gap: Option<Gap>) -> Option<Vec<u8>>
+        requires { IfSome gap (λ g. (g.from ≤ most_file) × (g.len ≤ most_file)) }
+        ensures { LooksBetween M.answers node gap self.old (option_map (λ v. v.items) result) self.new }
+    {
+        let gap = gap?;
+        let Ok(Ok(path)) = path_of(self.alloc, &self.nodes, node) else {
+            return None;
+        };
+        gather(self.alloc, &mut self.mount, &path, gap.from, gap.len)
+    }
+
+    // What is written waits with what waits and with what lies between; false without memory, upon which nothing
+    // changes.
+    fn bridge(&mut self, node: u64, offset: u64, between: Vec<u8>, bytes: &[u8]) -> bool
+        requires { IsSome (gap_of self.old.waits node offset bytes.now) }
+        ensures joins { result ≡ true
+            → JoinsOver M.answers node offset between.items bytes.now self.old (count (length bytes.now)) self.new }
+        ensures same { result ≡ false → self.new ≡ self.old }
+    {
+        if self
+            .waits
+            .bridge(self.alloc, node, offset, between, bytes)
+            .is_err()
+        {
+            return false;
+        }
+        self.times.change(node, now(&self.clock));
+        true
+    }
+
+    // What waits is stored, and then what is written waits or is stored too.
+    fn write_after(
+        &mut self,
+        node: u64,
+        offset: u64,
+        operation: &Operation<'_>,
+        place: Option<Place>,
+        goal: Option<Place>,
+        room: &mut Vec<u8>,
+    ) -> Said
+        requires place { place ≡ named node (seen operation.now) }
+        requires goal { goal ≡ goal_of (seen operation.now) }
+        ensures writes { Once M.answers (Some node) (WritesAnew M.answers node offset (seen operation.now)) self.old
+            (told result room.new.items) self.new }
+        ensures brief { IsBriefly result room.new.items }
+    {
+        match self.settle(node) {
+            Some(errno) => refuse(errno),
+            None => self.write_anew(node, offset, operation, place, goal, room),
+        }
+    }
+
+    // What lies between was read.
+    fn write_over(
+        &mut self,
+        node: u64,
+        offset: u64,
+        between: Vec<u8>,
+        operation: &Operation<'_>,
+        place: Option<Place>,
+        goal: Option<Place>,
+        room: &mut Vec<u8>,
+    ) -> Said
+        requires gap { IsSome (gap_of self.old.waits node offset (data_of (seen operation.now))) }
+        requires place { place ≡ named node (seen operation.now) }
+        requires goal { goal ≡ goal_of (seen operation.now) }
+        ensures writes { BridgesIf M.answers (Some between.items) node offset (data_of (seen operation.now))
+            (Once M.answers (Some node) (WritesAnew M.answers node offset (seen operation.now))) self.old
+            (told result room.new.items) self.new }
+        ensures brief { IsBriefly result room.new.items }
+    {
+        let bytes = data_of(operation);
+        if self.bridge(node, offset, between, bytes) {
+            return Said::Answers(count(bytes.len() as u64));
+        }
+        self.write_after(node, offset, operation, place, goal, room)
+    }
+
+    // What is written doesn't join what waits.
+    fn write_apart(
+        &mut self,
+        node: u64,
+        offset: u64,
+        operation: &Operation<'_>,
+        place: Option<Place>,
+        goal: Option<Place>,
+        room: &mut Vec<u8>,
+    ) -> Said
+        requires place { place ≡ named node (seen operation.now) }
+        requires goal { goal ≡ goal_of (seen operation.now) }
+        ensures writes { WritesApart M.answers node offset (seen operation.now) self.old
+            (told result room.new.items) self.new }
+        ensures brief { IsBriefly result room.new.items }
+    {
+        let gap = self.waits.gap(node, offset, data_of(operation));
+        match self.look_between(node, gap) {
+            None => self.write_after(node, offset, operation, place, goal, room),
+            Some(between) => {
+                self.write_over(node, offset, between, operation, place, goal, room)
+            }
+        }
+    }
+
+    // What is written waits, if it can.
     fn write(
         &mut self,
         node: u64,
@@ -282,10 +411,7 @@ impl<M: Mount + Drop, K: Clock + Drop> Shown<M, K> {
         if self.waits.may_wait(node, offset, bytes) {
             return self.join(node, offset, bytes, room);
         }
-        match self.settle(node) {
-            Some(errno) => refuse(errno),
-            None => self.write_anew(node, offset, operation, place, goal, room),
-        }
+        self.write_apart(node, offset, operation, place, goal, room)
     }
 
     // Answers a message that looks at what waits for a node.

@@ -1,6 +1,6 @@
 // How what waits is stored.
 ghost use Rattle.std.specs.Prelude.{◌≡◌, IfOk};
-ghost use Rattle.eden_fuse_shown.specs.Showing.{IsStored, StoresAll, storing, unstored};
+ghost use Rattle.eden_fuse_shown.specs.Showing.{IsStored, StoresAll, first_error, storing, unstored};
 
 use crate::concluding::errno_of;
 use crate::extents::{Extent, Extents};
@@ -61,12 +61,30 @@ pub(crate) fn store<M: Mount>(
     unstored(run(alloc, mount, step))
 }
 
-/// Stores all that waits, and drops what can't be stored.
-pub(crate) fn store_all<M: Mount>(alloc: Global, mount: &mut M, nodes: &Nodes, waits: Extents)
-    ensures { StoresAll M.answers nodes.now waits mount.old mount.new }
+// The number of the first error, of one store and those after it.
+fn first_error(one: Option<u32>, others: Option<u32>) -> Option<u32>
+    ensures { result ≡ first_error one others }
+{
+    match one {
+        None => others,
+        Some(errno) => Some(errno),
+    }
+}
+
+/// Stores all that waits, and drops what can't be stored; the number of the first error, upon which the others are
+/// stored all the same. None only if all was stored.
+pub(crate) fn store_all<M: Mount>(
+    alloc: Global,
+    mount: &mut M,
+    nodes: &Nodes,
+    waits: Extents,
+) -> Option<u32>
+    ensures { StoresAll M.answers nodes.now waits mount.old result mount.new }
 {
     let mut left = waits.into_map();
+    let mut why = None;
     'nodes: while let Some((node, extent)) = left.pop_first() {
-        store(alloc, mount, nodes, node, &extent);
+        why = first_error(why, store(alloc, mount, nodes, node, &extent));
     }
+    why
 }

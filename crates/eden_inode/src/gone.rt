@@ -4,7 +4,7 @@ ghost use Rattle.eden_inode.specs.Going.{graver};
 
 use eden_overlay::FilesFault;
 
-/// What came of an unload: how many directories went, and whether an unsaved one couldn't be stored.
+/// What came of an unload: how many directories went, and whether what had to be stored of one couldn't be.
 #[derive(Clone, Copy, PartialEq, Eq)]
 pub struct Gone {
     /// How many went, up to 2^64 - 1.

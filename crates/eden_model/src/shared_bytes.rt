@@ -1,4 +1,5 @@
-ghost use Rattle.std.specs.Prelude.{◌≡◌, ◌++◌, IfOk, OnOk, OnErr, length};
+ghost use Rattle.std.specs.Prelude.{◌≡◌, ◌≤◌, ◌+◌, ◌++◌, IfOk, OnOk, OnErr, drop, length, take};
+ghost use Rattle.eden_model.specs.Operations.{written};
 
 use std::alloc::{AllocError, Global};
 use std::marker::Model;
@@ -53,26 +54,51 @@ impl SharedBytes {
         Ok(SharedBytes { content })
     }
 
-    /// Appends bytes; those that have another owner are copied first. Without memory nothing changes.
-    pub fn append(&mut self, alloc: Global, bytes: &[u8]) -> Result<(), AllocError>
-        ensures ok { OnOk result (self.new ≡ self.old ++ bytes.now) }
+    /// Writes bytes into them, from a place in them or their end on: over what is there, and behind it. Those that have
+    /// another owner are copied first. Without memory nothing changes.
+    pub fn write(&mut self, alloc: Global, at: usize, bytes: &[u8]) -> Result<(), AllocError>
+        requires { at ≤ length self.old }
+        ensures ok { OnOk result (self.new ≡ written at bytes.now self.old) }
         ensures err { OnErr result (self.new ≡ self.old) }
     {
         if let Some(content) = Arc::get_mut(&mut self.content) {
-            return content.extend_from_slice(bytes);
+            return write_over(content, at, bytes);
         }
-        let content = joined(alloc, self.content.as_slice(), bytes)?;
+        let content = overwritten(alloc, self.content.as_slice(), at, bytes)?;
         *self = SharedBytes::new(alloc, content)?;
         Ok(())
     }
 }
 
-// The bytes of both.
-fn joined(alloc: Global, front: &[u8], behind: &[u8]) -> Result<Vec<u8>, AllocError>
-    ensures { IfOk result (λ v. v.items ≡ front.now ++ behind.now) }
+// Bytes from a place on that isn't behind the end, where they lie. Without memory nothing changes.
+fn write_over(content: &mut Vec<u8>, at: usize, bytes: &[u8]) -> Result<(), AllocError>
+    requires { at ≤ length content.old.items }
+    ensures ok { OnOk result (content.new.items ≡ written at bytes.now content.old.items) }
+    ensures err { OnErr result (content.new.items ≡ content.old.items) }
 {
-    let mut content = Vec::with_capacity(alloc, front.len().saturating_add(behind.len()))?;
-    content.extend_from_slice(front)?;
+    let (over, behind) = bytes.split_at(bytes.len().min(content.len() - at));
     content.extend_from_slice(behind)?;
+    put_over(content.as_mut_slice(), at, over);
+    Ok(())
+}
+
+// Bytes in place of as many others.
+fn put_over(content: &mut [u8], at: usize, bytes: &[u8])
+    requires { at + length bytes.now ≤ length content.old }
+    ensures { content.new ≡ take at content.old ++ bytes.now ++ drop (at + length bytes.now) content.old }
+{
+    content[at..at + bytes.len()].copy_from_slice(bytes);
+}
+
+// .. with what is around them in other room.
+fn overwritten(alloc: Global, old: &[u8], at: usize, bytes: &[u8]) -> Result<Vec<u8>, AllocError>
+    requires { at ≤ length old.now }
+    ensures { IfOk result (λ v. v.items ≡ written at bytes.now old.now) }
+{
+    let end = at.saturating_add(bytes.len()).min(old.len());
+    let mut content = Vec::with_capacity(alloc, old.len().saturating_add(bytes.len()))?;
+    content.extend_from_slice(&old[..at])?;
+    content.extend_from_slice(bytes)?;
+    content.extend_from_slice(&old[end..])?;
     Ok(content)
 }

@@ -1,4 +1,4 @@
-ghost use Rattle.std.specs.Prelude.{◌≡◌, ◌≤◌, ◌<◌, ◌-◌, ◌^◌, IfOk, IfSome, Ok, Err, length};
+ghost use Rattle.std.specs.Prelude.{◌≡◌, ◌≢◌, ◌⊎◌, ◌≤◌, ◌<◌, ◌-◌, ◌^◌, IfErr, IfOk, IfSome, Ok, Err, length};
 ghost use Rattle.std.specs.Io.KnownBytes.{Consumes};
 ghost use Rattle.std.specs.Fs.{metadata_len, file_type, IsFile};
 ghost use Rattle.eden_plain_files.specs.declared.fault.FolderFault.TheVariants as fault;
@@ -87,7 +87,8 @@ pub fn read_part<R: rt::Files>(
 
 /// The first `N` bytes that the reader gives; `Device` too where it gives fewer.
 pub fn front_of<R: Read, const N: usize>(reader: &mut R) -> Result<[u8; N], FolderFault>
-    ensures { IfOk result (λ first. Consumes (R.remaining reader.old) (R.remaining reader.new) first) }
+    ensures first { IfOk result (λ first. Consumes (R.remaining reader.old) (R.remaining reader.new) first) }
+    ensures fault { IfErr result (λ f. (f ≡ fault.Device) ⊎ (f ≡ fault.Memory)) }
 {
     let mut first = [0; N];
     reader.read_exact(&mut first)?;
@@ -109,6 +110,7 @@ pub fn read_within<R: Read + Drop>(
     ensures whole { IfOk result (λ v. IfSome (R.remaining reader) (λ bytes. v.items ≡ bytes)) }
     ensures bounded { IfOk result (λ v. length v.items ≤ longest) }
     ensures long { result ≡ Err fault.TooLong → IfSome (R.remaining reader) (λ bytes. longest < length bytes) }
+    ensures fault { IfErr result (λ f. (f ≢ fault.Missing) × (f ≢ fault.NotPlain)) }
 {
     let mut bytes = Vec::with_capacity(alloc, expected as usize + 1)?;
     let mut reader = reader.take(longest + 1);

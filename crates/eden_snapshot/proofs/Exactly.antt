@@ -1,7 +1,8 @@
 -- What is told of names tells exactly where what is shown differs from the commit's tree.
-use Rattle.std.proofs.Common.{◌≡◌, ◌≢◌, ◌⊎◌, inl, inr, ℕ, Bool, true, false, cond, ◌==◌, ◌&&◌, List, [], ◌∷◌, ◌++◌, Option, Some, None, Contains, map}
+use Rattle.std.proofs.Common.{◌≡◌, ◌≢◌, ◌⊎◌, inl, inr, ℕ, Bool, true, false, cond, ◌==◌, ◌&&◌, List, [], ◌∷◌, ◌++◌, Option, Some, None, IsSome, Contains, map}
 use Rattle.std.proofs.Common.{refl, sym, ap, ◌∙◌, subst, append_assoc, append-nil, arith, nat_cmp, Less}
 use Rattle.std.specs.List.{AllByRecursion}
+use Rattle.std.specs.List.Sorted.{IsStrictlySortedBy}
 use Rattle.std.specs.Map.{lookup}
 use Rattle.std.specs.Option.{option_map, unwrap_or, is_some}
 use Rattle.std.specs.Ordering.{is_eq}
@@ -39,8 +40,9 @@ use Rattle.eden_snapshot.specs.declared.change.How.TheVariants as how
 use Rattle.eden_snapshot.specs.declared.rows.Row.{Row}
 use Rattle.eden_snapshot.specs.Changes.{Told, Stand, StandsAs, StandsBy, StandsAsBlob, own_directory, own_directory_by, number_of, sort_of, may_be, is_same, is_tree, is_whole, told_of, change_of}
 use Rattle.eden_snapshot.specs.Changes.{Differ, none, alone, within, HasInside, TellsAll, untouched, own}
+use Rattle.eden_snapshot.specs.Changes.{DifferSoFar, stopped, passed, begun, entered, TellsSome, TellsAllSoFar}
 use Rattle.eden_snapshot.specs.Commits.{Place, place_of, place_named}
-use Rattle.eden_snapshot.specs.Exact.{shows_as, sort_shown, TellsLess, AreApart, LeadsTo, added, removed, modified, retyped, IsCovered, GrowsExactly, HasBlobs}
+use Rattle.eden_snapshot.specs.Exact.{shows_as, sort_shown, TellsLess, AreApart, LeadsTo, added, removed, modified, retyped, IsCovered, GrowsExactly, GrowsTruly, HasBlobs}
 use Rattle.eden_snapshot.specs.Rows.{Rows, AreRows, nothing, is_name, row_in, stored_named}
 use Rattle.eden_snapshot.specs.Showing.{FilesShow}
 use Rattle.eden_snapshot.specs.Written.{mode_of}
@@ -571,11 +573,12 @@ module _ (R : Repository) (F : Stored) where
     own_alike (Some (mode.Gitlink, id)) old tree h = absurd (cc)
     own_alike (Some (mode.Dir, id)) old tree h = sym (at_top G (Object id) (repository.items_of old) (tree_entries R F id old tree))
 
-    own_leads : (o : Option Place) (c : Change) → change_of o (Some (mode.Dir, None)) ≡ Some c → LeadsTo c (was o []) (Some (node.Dir true))
-    own_leads None c h = first_leads (mode.Dir, None) (node.Dir true) c refl h
-    own_leads (Some place) c h =
-        leads_by place (mode.Dir, None) (node.Dir true) c refl refl
-        (λ sorted differ. dir_apart place.0 place.1 (node.Dir true) (ap up (eqb-true (sort_of place.0) 2 sorted))) (told_as place (mode.Dir, None) c h)
+    own_leads : (o : Option Place) (c : Change) (y : Node) → kind_of y ≡ kind.Dir → sort_shown y ≡ 2 → change_of o (Some (mode.Dir, None)) ≡ Some c
+        → LeadsTo c (was o []) (Some y)
+    own_leads None c y at_kind at_sort h = first_leads (mode.Dir, None) y c at_kind h
+    own_leads (Some place) c y at_kind at_sort h =
+        leads_by place (mode.Dir, None) y c at_kind at_sort
+        (λ sorted differ. dir_apart place.0 place.1 y (ap up (eqb-true (sort_of place.0) 2 sorted))) (told_as place (mode.Dir, None) c h)
 
     -- ---- all rows: what isn't covered is alike
 
@@ -695,12 +698,13 @@ module _ (R : Repository) (F : Stored) where
         let by_new = subst (λ (o : Option Node). LeadsTo t.1 (was r.1.old (m ∷ q)) o) (sym (inside_is r.1.new number new mine held m q)) by_old in
         led_first front r rows t (m ∷ q) (led.1.1.0 ∙ below_of front r.0 m q) by_new
 
-    own_led : (e : Option StoredEntry) (o : Option Place) (stand : Option Stand) (number : ℕ) (new : List StoredEntry) (c : Change) → own_directory e ≡ Some number
-        → HoldsEntries F number new → StandsAs F e stand → change_of o stand ≡ Some c → LeadsTo c (was o []) (is e [])
-    own_led e o stand number new c mine held s h =
-        let at = own_stands e number stand mine s in
-        let leads = own_leads o c (sym (ap (λ (x : Option Stand). change_of o x) at) ∙ h) in
-        subst (λ (q : Option Node). LeadsTo c (was o []) q) (sym (own_top e number new mine held)) leads
+    own_led : (e : Option StoredEntry) (o : Option Place) (stand : Option Stand) (number : ℕ) (c : Change) → own_directory e ≡ Some number
+        → StandsAs F e stand → change_of o stand ≡ Some c → LeadsTo c (was o []) (is e [])
+    own_led None o stand number c mine s h = absurd (cc)
+    own_led (Some e) o stand number c mine s h =
+        let at = own_stands (Some e) number stand mine s in
+        let leads = own_leads o c (node_of G (dir G (Own number))) refl refl (sym (ap (λ (x : Option Stand). change_of o x) at) ∙ h) in
+        subst (λ (i : Item Source). LeadsTo c (was o []) (shown G i [])) (sym (own_is e number mine)) leads
 
     sound : (front : Path) (rows : Rows) (more : List Told) → Differ F R front rows more → AreRising (λ r. r.0) rows → AreAllFine rows → (t : Told) → Contains more t
         → Led front rows t
@@ -715,13 +719,49 @@ module _ (R : Repository) (F : Stored) where
         let first = told_of (at ++ k ∷ []) (change_of row.old stand) in
         let fine_inside = all_fine old new inside are (fine new (held_storable F number new held)) in
         let here : Contains (first ++ below) t → Led at ((k, row) ∷ others) t = λ among. one_of (Led at ((k, row) ∷ others) t)
-        (λ top. led_itself at (k, row) others t (change_of row.old stand) top (λ c told. own_led row.new row.old stand number new c mine held s told))
+        (λ top. led_itself at (k, row) others t (change_of row.old stand) top (λ c told. own_led row.new row.old stand number c mine s told))
         (λ lower_told. led_inside at (k, row) others t number new old inside mine held in_commit are
         (sound (at ++ k ∷ []) inside below d are.rising fine_inside t lower_told))
         (Contains-append_cases first below t among) in
         one_of (Led at ((k, row) ∷ others) t) here
         (λ later. led_later at (k, row) others t rising (sound at others heard e (behind (k, row) others rising) fine_all.1 t later))
         (Contains-append_cases (first ++ below) heard t h)
+
+    -- .. also what is told before an error
+    led_alone : (b : Bool) (front : Path) (r : Name × Row) (rows : Rows) (t : Told) (n : Name) (p : Path) → is_name n r.0 ≡ b → t.0 ≡ front ++ n ∷ p
+        → LeadsTo t.1 (was (row_in (r ∷ []) n).old p) (is (row_in (r ∷ []) n).new p) → Led front (r ∷ rows) t
+    led_alone true front r rows t n p same at leads =
+        let there : row_in (r ∷ []) n ≡ r.1 = ap (λ (m : Name). row_in (r ∷ []) m) (told_name n r.0 same) ∙ at_first r [] in
+        led_first front r rows t p (at ∙ ap (λ (m : Name). front ++ m ∷ p) (told_name n r.0 same))
+        (subst (λ (row : Row). LeadsTo t.1 (was row.old p) (is row.new p)) there leads)
+    led_alone false front r rows t n p same at leads =
+        let none : row_in (r ∷ []) n ≡ nothing = at_later n r [] same in
+        absurd (never_leads t.1 None None (subst (λ (row : Row). LeadsTo t.1 (was row.old p) (is row.new p)) none leads) refl refl)
+
+    alone_rising : (r : Name × Row) (rows : Rows) → AreRising (λ r. r.0) (r ∷ rows) → AreRising (λ r. r.0) (r ∷ [])
+    unfolding IsStrictlySortedBy
+    alone_rising r rows rising = (tt, tt)
+
+    sound_so_far : (front : Path) (rows : Rows) (more : List Told) → DifferSoFar F R front rows more → AreRising (λ r. r.0) rows → AreAllFine rows
+        → (t : Told) → Contains more t → Led front rows t
+    sound_so_far front rows more (stopped at any) rising fine_all t h = absurd (nothing_in t h)
+    sound_so_far front rows more (passed at k row others first heard d e) rising fine_all t h =
+        one_of (Led at ((k, row) ∷ others) t)
+        (λ here.
+        let led = sound at ((k, row) ∷ []) first d (alone_rising (k, row) others rising) (fine_all.0, tt) t here in
+        led_alone (is_name led.0 k) at (k, row) others t led.0 led.1.0 refl led.1.1.0 led.1.1.1)
+        (λ later. led_later at (k, row) others t rising (sound_so_far at others heard e (behind (k, row) others rising) fine_all.1 t later))
+        (Contains-append_cases first heard t h)
+    sound_so_far front rows more (begun at k row stand number others mine s) rising fine_all t h =
+        led_itself at (k, row) others t (change_of row.old stand) h (λ c told. own_led row.new row.old stand number c mine s told)
+    sound_so_far front rows more (entered at k row stand number new old within_rows others below mine s held in_commit are d) rising fine_all t h =
+        let first = told_of (at ++ k ∷ []) (change_of row.old stand) in
+        let fine_inside = all_fine old new within_rows are (fine new (held_storable F number new held)) in
+        one_of (Led at ((k, row) ∷ others) t)
+        (λ above. led_itself at (k, row) others t (change_of row.old stand) above (λ c told. own_led row.new row.old stand number c mine s told))
+        (λ lower_told. led_inside at (k, row) others t number new old within_rows mine held in_commit are
+        (sound_so_far (at ++ k ∷ []) within_rows below d are.rising fine_inside t lower_told))
+        (Contains-append_cases first below t h)
 
     -- ---- the whole
 
@@ -731,8 +771,8 @@ module _ (R : Repository) (F : Stored) where
         ap (λ (T : Tree). T p) (commit_shows R F t no_root) ∙ whole_alike R (own_files F) t p in
         record { more = []; grew = sym (append-nil old); exact = record { each = λ u h. absurd (nothing_in u h); all = λ p. inr (same p) } }
 
-    module _ (t : Id) (before : List TreeEntry) (after : List StoredEntry) (rows : Rows) (more : List Told) (rooted : is_some (root_file F) ≡ true)
-        (tree : R.tree t ≡ Some before) (held : HoldsEntries F 1 after) (are : AreRows before after rows) (d : Differ F R [] rows more) where
+    module _ (t : Id) (before : List TreeEntry) (after : List StoredEntry) (rows : Rows) (rooted : is_some (root_file F) ≡ true)
+        (tree : R.tree t ≡ Some before) (held : HoldsEntries F 1 after) (are : AreRows before after rows) where
       shows_new : (p : Path) → FilesShow R t F p ≡ shown G (dir G (Own 1)) p
       shows_new p = ap (λ (T : Tree). T p) (own_shows R F t (root_file F) refl rooted)
 
@@ -748,9 +788,8 @@ module _ (R : Repository) (F : Stored) where
       fine_all : AreAllFine rows
       fine_all = all_fine before after rows are (fine after (held_storable F 1 after held))
 
-      each_leads : (u : Told) → Contains more u → LeadsTo u.1 (Whole R t u.0) (FilesShow R t F u.0)
-      each_leads u h =
-          let led = sound [] rows more d are.rising fine_all u h in
+      top_leads : (u : Told) → Led [] rows u → LeadsTo u.1 (Whole R t u.0) (FilesShow R t F u.0)
+      top_leads u led =
           let n = led.0 in
           let q = led.1.0 in
           let there = subst (λ (row : Row). LeadsTo u.1 (was row.old q) (is row.new q)) (are.at n) led.1.1.1 in
@@ -758,18 +797,25 @@ module _ (R : Repository) (F : Stored) where
           let by_new = subst (λ (o : Option Node). LeadsTo u.1 (Whole R t (n ∷ q)) o) (sym (new_named n q)) by_old in
           subst (λ (p : Path). LeadsTo u.1 (Whole R t p) (FilesShow R t F p)) (sym led.1.1.0) by_new
 
-      fits_named : (n : Name) (q : Path) → Fits more (n ∷ q) (row_in rows n) q → IsCovered more (n ∷ q) ⊎ (FilesShow R t F (n ∷ q) ≡ Whole R t (n ∷ q))
-      fits_named n q (inl c) = inl c
-      fits_named n q (inr alike) =
+      each_leads : (more : List Told) → Differ F R [] rows more → (u : Told) → Contains more u → LeadsTo u.1 (Whole R t u.0) (FilesShow R t F u.0)
+      each_leads more d u h = top_leads u (sound [] rows more d are.rising fine_all u h)
+
+      each_so_far : (more : List Told) → DifferSoFar F R [] rows more → (u : Told) → Contains more u → LeadsTo u.1 (Whole R t u.0) (FilesShow R t F u.0)
+      each_so_far more d u h = top_leads u (sound_so_far [] rows more d are.rising fine_all u h)
+
+      fits_named : (more : List Told) (n : Name) (q : Path) → Fits more (n ∷ q) (row_in rows n) q
+          → IsCovered more (n ∷ q) ⊎ (FilesShow R t F (n ∷ q) ≡ Whole R t (n ∷ q))
+      fits_named more n q (inl c) = inl c
+      fits_named more n q (inr alike) =
           let at = subst (λ (r : Row). is r.new q ≡ was r.old q) (are.at n) alike in
           inr (new_named n q ∙ at ∙ sym (old_named n q))
 
-      all_fit : (p : Path) → IsCovered more p ⊎ (FilesShow R t F p ≡ Whole R t p)
-      all_fit [] =
+      all_fit : (more : List Told) → Differ F R [] rows more → (p : Path) → IsCovered more p ⊎ (FilesShow R t F p ≡ Whole R t p)
+      all_fit more d [] =
           let top_new = shows_new [] ∙ at_top G (Own 1) (items_of after) (own_entries R F 1 after held) in
           let top_old = shows_old [] ∙ at_top G (Object t) (repository.items_of before) (tree_entries R F t before tree) in
           inr (top_new ∙ sym top_old)
-      all_fit (n ∷ q) = fits_named n q (complete [] rows more d are.rising fine_all n q)
+      all_fit more d (n ∷ q) = fits_named more n q (complete [] rows more d are.rising fine_all n q)
 
     pub exact : (t : Id) (old new : List Told) → TellsAll F R t old new → GrowsExactly old new (Whole R t) (FilesShow R t F)
     exact t old new (untouched told no_root) = untouched_exact t told no_root
@@ -777,7 +823,20 @@ module _ (R : Repository) (F : Stored) where
       more = d.tells.more;
       grew = d.tells.grew;
       exact = record {
-        each = each_leads t before d.after d.rows d.tells.more rooted tree d.held d.are d.tells.differ;
-        all = all_fit t before d.after d.rows d.tells.more rooted tree d.held d.are d.tells.differ;
+        each = each_leads t before d.after d.rows rooted tree d.held d.are d.tells.more d.tells.differ;
+        all = all_fit t before d.after d.rows rooted tree d.held d.are d.tells.more d.tells.differ;
       };
     }
+
+    -- .. as far as it was told
+    some_truly : (t : Id) (before : List TreeEntry) (old new : List Told) → IsSome (root_file F) → R.tree t ≡ Some before
+        → TellsSome F R [] 1 before old new → GrowsTruly old new (Whole R t) (FilesShow R t F)
+    some_truly t before old new rooted tree d = record {
+      more = d.tells.more;
+      grew = d.tells.grew;
+      each = each_so_far t before d.after d.rows rooted tree d.held d.are d.tells.more d.tells.differ;
+    }
+
+    pub truly : (t : Id) (old new : List Told) → TellsAllSoFar F R t old new → GrowsTruly old new (Whole R t) (FilesShow R t F)
+    truly t old new (inl same) = record { more = []; grew = same ∙ sym (append-nil old); each = λ u h. absurd (nothing_in u h) }
+    truly t old new (inr s) = some_truly t s.1.0 old new s.0 s.1.1.0 s.1.1.1

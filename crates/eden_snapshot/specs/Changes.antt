@@ -1,5 +1,5 @@
 -- How what is shown differs from a commit's tree.
-use Rattle.std.specs.Prelude.{◌≡◌, ℕ, Bool, true, false, ◌==◌, ◌&&◌, List, [], ◌∷◌, ◌++◌, Option, Some, None, IsSome, if◌then◌else◌}
+use Rattle.std.specs.Prelude.{◌≡◌, ◌⊎◌, ℕ, Bool, true, false, ◌==◌, ◌&&◌, List, [], ◌∷◌, ◌++◌, Option, Some, None, IsSome, if◌then◌else◌}
 use Rattle.std.specs.Option.{is_some}
 use Rattle.eden_model.specs.declared.id.Id.{Id}
 use Rattle.eden_model.specs.declared.kind.Kind.{Kind}
@@ -178,3 +178,52 @@ pub data TellsAll (F : Stored) (R : Repository) (t : Id) : List Told → List To
   untouched : (old : List Told) → root_file F ≡ None → TellsAll F R t old old
   own : (before : List TreeEntry) (old new : List Told) → IsSome (root_file F) → R.tree t ≡ Some before
       → TellsDirectory F R [] 1 before old new → TellsAll F R t old new
+
+-- ---- as far as they were told
+
+-- The changes of these rows that were told before an error came: all of some names in turn, and of the next its own, or also some below it.
+pub data DifferSoFar (F : Stored) (R : Repository) : Path → Rows → List Told → Type 0 where
+  stopped : (front : Path) (rows : Rows) → DifferSoFar F R front rows []
+  passed : (front : Path) (n : Name) (row : Row) (rows : Rows) (first more : List Told)
+      → Differ F R front ((n, row) ∷ []) first → DifferSoFar F R front rows more → DifferSoFar F R front ((n, row) ∷ rows) (first ++ more)
+  begun : (front : Path) (n : Name) (row : Row) (stand : Option Stand) (k : ℕ) (rows : Rows)
+      → own_directory row.new ≡ Some k → StandsAs F row.new stand
+      → DifferSoFar F R front ((n, row) ∷ rows) (told_of (front ++ n ∷ []) (change_of row.old stand))
+  entered : (front : Path) (n : Name) (row : Row) (stand : Option Stand) (k : ℕ) (new : List StoredEntry) (old : List TreeEntry) (within rows : Rows)
+      (below : List Told)
+      → own_directory row.new ≡ Some k → StandsAs F row.new stand → HoldsEntries F k new → HasInside R row.old old → AreRows old new within
+      → DifferSoFar F R (front ++ n ∷ []) within below
+      → DifferSoFar F R front ((n, row) ∷ rows) (told_of (front ++ n ∷ []) (change_of row.old stand) ++ below)
+
+-- .. by which the changes that were told grew
+pub record TellsSoFar (F : Stored) (R : Repository) (front : Path) (rows : Rows) (old new : List Told) : Type 0 where
+  pub more : List Told
+  pub grew : new ≡ old ++ more
+  pub differ : DifferSoFar F R front rows more
+
+-- .. under a name, whatever stands behind it
+abbrev pub TellsNameSoFar : Stored → Repository → Path → Name × Row → List Told → List Told → Type 0
+TellsNameSoFar F R front named old new = (rest : Rows) → TellsSoFar F R front (named ∷ rest) old new
+
+-- .. some of those of the own directory of that number
+pub record TellsSome (F : Stored) (R : Repository) (front : Path) (k : ℕ) (before : List TreeEntry) (old new : List Told) : Type 0 where
+  pub after : List StoredEntry
+  pub held : HoldsEntries F k after
+  pub rows : Rows
+  pub are : AreRows before after rows
+  pub tells : TellsSoFar F R front rows old new
+
+-- .. or none
+abbrev pub TellsDirectorySoFar : Stored → Repository → Path → ℕ → List TreeEntry → List Told → List Told → Type 0
+TellsDirectorySoFar F R front k before old new = (new ≡ old) ⊎ TellsSome F R front k before old new
+
+abbrev pub TellsInsideSoFar : Stored → Repository → Path → ℕ → Option Place → List Told → List Told → Type 0
+TellsInsideSoFar F R front k place old new = (new ≡ old) ⊎ ((before : List TreeEntry) × (HasInside R place before × TellsSome F R front k before old new))
+
+abbrev pub TellsBelowSoFar : Stored → Repository → Path → Option ℕ → Option Place → List Told → List Told → Type 0
+TellsBelowSoFar F R front None place old new = ⊥
+TellsBelowSoFar F R front (Some k) place old new = TellsInsideSoFar F R front k place old new
+
+abbrev pub TellsAllSoFar : Stored → Repository → Id → List Told → List Told → Type 0
+TellsAllSoFar F R t old new =
+    (new ≡ old) ⊎ (IsSome (root_file F) × ((before : List TreeEntry) × ((R.tree t ≡ Some before) × TellsSome F R [] 1 before old new)))

@@ -81,6 +81,12 @@ pub record GrowsExactly (before after : List Told) (old new : Tree) : Type 0 whe
   pub grew : after ≡ before ++ more
   pub exact : TellExactly more old new
 
+-- .. by some that lead so
+pub record GrowsTruly (before after : List Told) (old new : Tree) : Type 0 where
+  pub more : List Told
+  pub grew : after ≡ before ++ more
+  pub each : (t : Told) → Contains more t → LeadsTo t.1 (old t.0) (new t.0)
+
 -- ---- in a repository
 
 -- the repository has each blob under its own id alone (Git's object format), and each content of the files' under its own
@@ -91,3 +97,7 @@ pub record HasBlobs (R : Repository) (F : Stored) : Type 0 where
 -- There, so those that were told grew by what the files change of the commit's tree t.
 abbrev pub TellsExactly : Repository → Id → Stored → List Told → List Told → Type 0
 TellsExactly R t F before after = HasBlobs R F → GrowsExactly before after (Whole R t) (FilesShow R t F)
+
+-- .. by some of that
+abbrev pub TellsTruly : Repository → Id → Stored → List Told → List Told → Type 0
+TellsTruly R t F before after = HasBlobs R F → GrowsTruly before after (Whole R t) (FilesShow R t F)

@@ -1,10 +1,12 @@
 //! The changes that closed files show against a commit's tree.
 
-ghost use Rattle.std.specs.Prelude.{◌≡◌, ◌∷◌, ◌++◌, [], Some, IfOk, OnOk};
+ghost use Rattle.std.specs.Prelude.{◌≡◌, ◌∷◌, ◌++◌, [], Some, IfOk, OnOk, OnErr};
 ghost use Rattle.eden_snapshot.specs.Changes.{HasInside, IsBlobOf, StandsAs, StandsBy, Tells, TellsAll, TellsBelow};
 ghost use Rattle.eden_snapshot.specs.Changes.{TellsDirectory, TellsInside};
+ghost use Rattle.eden_snapshot.specs.Changes.{TellsAllSoFar, TellsBelowSoFar, TellsDirectorySoFar};
+ghost use Rattle.eden_snapshot.specs.Changes.{TellsInsideSoFar, TellsNameSoFar};
 ghost use Rattle.eden_snapshot.specs.Changes.{own_directory, own_directory_by, told_of};
-ghost use Rattle.eden_snapshot.specs.Exact.{TellsExactly};
+ghost use Rattle.eden_snapshot.specs.Exact.{TellsExactly, TellsTruly};
 
 use crate::change::{Change, Stand, change_of};
 use crate::commit::tree_entries;
@@ -52,6 +54,9 @@ pub trait ChangeSink<W: World> {
 /// has the id that the commit has there is no change. So a path is told exactly where what the files show differs from
 /// the commit's whole tree, but for what is below a path that is told by its top alone. Empty directories are told too,
 /// which a snapshot leaves out, and a submodule that stands at a path where the commit has one is none.
+///
+/// What was told before an error is as it would have been told without it: all of some names in turn, and of the next
+/// its own change or none, and some of what is below it.
 pub fn changes<W: World, F: Files<W>, S: Source<W>, C: ChangeSink<W>>(
     alloc: Global,
     root: Id,
@@ -63,6 +68,10 @@ pub fn changes<W: World, F: Files<W>, S: Source<W>, C: ChangeSink<W>>(
         (TellsAll (F.stored overlay.old) W.repository root (C.told sink.old) (C.told sink.new)) }
     ensures exact { W.honest → OnOk result
         (TellsExactly W.repository root (F.stored overlay.old) (C.told sink.old) (C.told sink.new)) }
+    ensures told_so_far { W.honest → OnErr result
+        (TellsAllSoFar (F.stored overlay.old) W.repository root (C.told sink.old) (C.told sink.new)) }
+    ensures truly { W.honest → OnErr result
+        (TellsTruly W.repository root (F.stored overlay.old) (C.told sink.old) (C.told sink.new)) }
     ensures unchanged { W.honest → F.stored overlay.new ≡ F.stored overlay.old }
 {
     if !overlay.is_rooted()? {
@@ -120,6 +129,8 @@ fn directory<W: World, F: Files<W>, S: Source<W>, C: ChangeSink<W>>(
 ) -> Result<(), SnapshotFault>
     ensures told { W.honest → OnOk result (TellsDirectory (F.stored overlay.old) W.repository trail.old number
         before.items (C.told sink.old) (C.told sink.new)) }
+    ensures so_far { W.honest → OnErr result (TellsDirectorySoFar (F.stored overlay.old) W.repository trail.old number
+        before.items (C.told sink.old) (C.told sink.new)) }
     ensures unchanged { W.honest → F.stored overlay.new ≡ F.stored overlay.old }
     ensures back { OnOk result (trail.new ≡ trail.old) }
 {
@@ -143,6 +154,8 @@ fn entry<W: World, F: Files<W>, S: Source<W>, C: ChangeSink<W>>(
     levels: u32,
 ) -> Result<(), SnapshotFault>
     ensures told { W.honest → OnOk result (Tells (F.stored overlay.old) W.repository trail.old (named.now ∷ [])
+        (C.told sink.old) (C.told sink.new)) }
+    ensures so_far { W.honest → OnErr result (TellsNameSoFar (F.stored overlay.old) W.repository trail.old named.now
         (C.told sink.old) (C.told sink.new)) }
     ensures unchanged { W.honest → F.stored overlay.new ≡ F.stored overlay.old }
     ensures back { OnOk result (trail.new ≡ trail.old) }
@@ -169,6 +182,8 @@ fn below<W: World, F: Files<W>, S: Source<W>, C: ChangeSink<W>>(
 ) -> Result<(), SnapshotFault>
     ensures told { W.honest → OnOk result (TellsBelow (F.stored overlay.old) W.repository trail.old
         (own_directory row.now.new) row.now.old (C.told sink.old) (C.told sink.new)) }
+    ensures so_far { W.honest → OnErr result (TellsBelowSoFar (F.stored overlay.old) W.repository trail.old
+        (own_directory row.now.new) row.now.old (C.told sink.old) (C.told sink.new)) }
     ensures unchanged { W.honest → F.stored overlay.new ≡ F.stored overlay.old }
     ensures back { OnOk result (trail.new ≡ trail.old) }
 {
@@ -192,6 +207,8 @@ fn inside<W: World, F: Files<W>, S: Source<W>, C: ChangeSink<W>>(
 ) -> Result<(), SnapshotFault>
     ensures told { W.honest → OnOk result (TellsInside (F.stored overlay.old) W.repository trail.old number place
         (C.told sink.old) (C.told sink.new)) }
+    ensures so_far { W.honest → OnErr result (TellsInsideSoFar (F.stored overlay.old) W.repository trail.old number
+        place (C.told sink.old) (C.told sink.new)) }
     ensures unchanged { W.honest → F.stored overlay.new ≡ F.stored overlay.old }
     ensures back { OnOk result (trail.new ≡ trail.old) }
 {
@@ -218,7 +235,8 @@ fn tell<W: World, C: ChangeSink<W>>(
     trail: &Trail,
     change: Option<Change>,
 ) -> Result<(), SinkFault>
-    ensures { W.honest → OnOk result (C.told sink.new ≡ C.told sink.old ++ told_of trail.now change) }
+    ensures ok { W.honest → OnOk result (C.told sink.new ≡ C.told sink.old ++ told_of trail.now change) }
+    ensures err { W.honest → OnErr result (C.told sink.new ≡ C.told sink.old) }
 {
     match change {
         None => Ok(()),

@@ -121,12 +121,14 @@ impl Caller {
     }
 }
 
-/// What is left at the end: so many files; bytes were put into one so often; the disk was to be waited for so often; or
-/// that, how often bytes were put, and how often by the last time.
+/// What is left at the end: so many files; bytes were put into one so often, and none were lost, or that error was told
+/// of what was; the disk was to be waited for so often; or that, how often bytes were put, and how often by the last
+/// time.
 #[derive(Clone, Copy)]
 pub(crate) enum End {
     Files(usize),
     Stores(usize),
+    Loses(usize, u32),
     Syncs(usize),
     Synced(usize, usize, usize),
 }
@@ -134,7 +136,8 @@ pub(crate) enum End {
 fn is_left(left: Left, end: End) -> bool {
     match end {
         End::Files(files) => left.files == files,
-        End::Stores(stores) => left.stores == stores,
+        End::Stores(stores) => left.stores == stores && left.unstored.is_none(),
+        End::Loses(stores, errno) => left.stores == stores && left.unstored == Some(errno),
         End::Syncs(syncs) => left.syncs == syncs,
         End::Synced(syncs, stores, stores_by_sync) => {
             left.syncs == syncs && left.stores == stores && left.stores_by_sync == stores_by_sync

@@ -34,11 +34,12 @@ pub(crate) struct Flat {
     stores_by_sync: usize,
 }
 
-// How many files there are at last, and how often what was done.
+// How many files there are at last, how often what was done, and the error that the last stores met.
 #[derive(Clone, Copy)]
 pub(crate) struct Left {
     pub(crate) files: usize,
     pub(crate) stores: usize,
+    pub(crate) unstored: Option<u32>,
     pub(crate) syncs: usize,
     pub(crate) stores_by_sync: usize,
 }
@@ -101,12 +102,14 @@ impl Flat {
         }
     }
 
-    fn read(&self, path: &Path) -> Result<Reply, AllocError> {
+    fn read(&self, path: &Path, from: u64, count: u64) -> Result<Reply, AllocError> {
         let Some(file) = self.file(path) else {
             return Ok(Reply::Err(Errno::ENOENT));
         };
-        let bytes = Vec::from_slice(self.alloc, file.bytes.as_slice())?;
-        Ok(Reply::Data(Bytes::new(bytes)))
+        let bytes = file.bytes.as_slice();
+        let behind = &bytes[bytes.len().min(from as usize)..];
+        let part = &behind[..behind.len().min(count as usize)];
+        Ok(Reply::Data(Bytes::new(Vec::from_slice(self.alloc, part)?)))
     }
 
     fn list(&self, after: &Option<Name>) -> Result<Reply, AllocError> {
@@ -208,7 +211,7 @@ impl Flat {
                 None => Ok(Reply::Err(Errno::ENOENT)),
                 Some(kind) => Ok(Reply::Stat(kind, self.len(path), 77)),
             },
-            Request::Read(path, _, _) => self.read(path),
+            Request::Read(path, from, count) => self.read(path, *from, *count),
             Request::List(_, after, _) => self.list(after),
             Request::Patch(path, from, bytes) => self.write(path, *from, bytes.as_slice()),
             Request::Create(path) => self.create(path),
@@ -471,10 +474,11 @@ impl Folder {
     // What there is once the folder is no more.
     pub(crate) fn end(self) -> Left {
         let Folder { shown, .. } = self;
-        let flat = shown.into_mount();
+        let (flat, unstored) = shown.into_mount();
         Left {
             files: flat.files.len(),
             stores: flat.stores,
+            unstored,
             syncs: flat.syncs,
             stores_by_sync: flat.stores_by_sync,
         }

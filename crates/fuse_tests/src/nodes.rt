@@ -187,10 +187,10 @@ fn deepest(rt: &(impl AllocGlobal + Abort), nodes: &mut Nodes) -> u64 {
 const ITS_OWN_CHILD: &[Step] = &[
     Step::Learns(0, "a", 1),
     Step::Renames(0, "a", 1, "a"),
-    Step::Lies(1, b"+"),
+    Step::Lies(1, b"-"),
 ];
 
-// A directory below itself lies nowhere near, and what lies below too many names lies too far.
+// A directory below itself lies nowhere, and what lies below too many names lies too far.
 #[test]
 fn ways_end(rt: HostRuntime) {
     let mut nodes = Nodes::new(rt.alloc());

@@ -1,6 +1,7 @@
 //! What is written waits, and when it is stored, over files in memory.
 use crate::calls::{CLOSE, Call, End, FLUSH, SYNC, SYNC_DIRECTORY, check};
 use crate::flat::Start;
+use eden_fuse_format::Operation;
 
 const A: Start = Start {
     names: &[b"a"],
@@ -14,7 +15,20 @@ const A_AND_B: Start = Start {
     has_disk: true,
 };
 
-// .. into which no bytes are put.
+// .. of which the first, or the second, is one into which no bytes are put.
+const A_AS_IT_IS_AND_B: Start = Start {
+    names: &[b"a", b"b"],
+    refused: b"a",
+    has_disk: true,
+};
+
+const A_AND_B_AS_IT_IS: Start = Start {
+    names: &[b"a", b"b"],
+    refused: b"b",
+    has_disk: true,
+};
+
+// .. and only one, into which no bytes are put.
 const A_AS_IT_IS: Start = Start {
     names: &[b"a"],
     refused: b"a",
@@ -61,6 +75,36 @@ const NOT_CLOSED: &[Call] = &[
 #[test]
 fn what_is_left_is_stored_at_the_end(rt: HostRuntime) {
     check(&rt, A_AND_B, NOT_CLOSED, End::Stores(2));
+}
+
+// What can't be stored then is told, be it the first or the last that waits, and the other is stored all the same.
+#[test]
+fn what_is_lost_at_the_end_is_told(rt: HostRuntime) {
+    check(&rt, A_AS_IT_IS_AND_B, NOT_CLOSED, End::Loses(1, 5));
+    check(&rt, A_AND_B_AS_IT_IS, NOT_CLOSED, End::Loses(1, 5));
+}
+
+const A_REMOVED: &[Call] = &[
+    Call::Finds(1, b"a"),
+    Call::Finds(2, b"b"),
+    Call::Writes(1, 0, b"1"),
+    Call::Writes(2, 0, b"2"),
+    Call::Tells(0, Operation::Unlink(b"a"), 0),
+];
+
+const B_REMOVED: &[Call] = &[
+    Call::Finds(1, b"a"),
+    Call::Finds(2, b"b"),
+    Call::Writes(1, 0, b"1"),
+    Call::Writes(2, 0, b"2"),
+    Call::Tells(0, Operation::Unlink(b"b"), 0),
+];
+
+// The first error is told: a node at no place is `ESTALE`, 116 in Linux, and what the mount doesn't do is `EIO`, 5.
+#[test]
+fn the_first_loss_is_told(rt: HostRuntime) {
+    check(&rt, A_AND_B_AS_IT_IS, A_REMOVED, End::Loses(0, 116));
+    check(&rt, A_AS_IT_IS_AND_B, B_REMOVED, End::Loses(0, 5));
 }
 
 const SEEN: &[Call] = &[
@@ -110,10 +154,22 @@ const APART: &[Call] = &[
     Call::Reads(1, b"HELLO\0\0!"),
 ];
 
-// What begins before it or behind its end begins anew, once what waits is stored.
+const BETWEEN: &[Call] = &[
+    Call::Finds(1, b"a"),
+    Call::Opens(1),
+    Call::Writes(1, 3, b"L"),
+    Call::Writes(1, 0, b"J"),
+    Call::Writes(1, 8, b"!"),
+    Call::Writes(1, 1, b"E"),
+    Call::Tells(1, FLUSH, 0),
+    Call::Reads(1, b"JElLo\0\0\0!"),
+];
+
+// What begins before it or behind its end waits with what the file has between, and with zeros behind the file's end.
 #[test]
-fn what_does_not_go_on_begins_anew(rt: HostRuntime) {
-    check(&rt, A, APART, End::Stores(4));
+fn what_lies_between_is_stored_with_it(rt: HostRuntime) {
+    check(&rt, A, APART, End::Stores(1));
+    check(&rt, A, BETWEEN, End::Stores(1));
 }
 
 const TOO_FAR: &[Call] = &[
@@ -138,7 +194,7 @@ const NOT_STORED: &[Call] = &[
     Call::Tells(1, FLUSH, 5),
     Call::Tells(1, SYNC, 5),
     Call::Shows(1, 1000),
-    Call::WritesNot(1, 4, b"o"),
+    Call::WritesNot(1, 64 << 20, b"o"),
     Call::Writes(1, 0, b"hEL"),
     Call::Writes(1, 3, b"LO"),
     Call::Tells(1, FLUSH, 5),

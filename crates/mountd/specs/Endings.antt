@@ -1,5 +1,5 @@
 -- How a run ends: the names of its faults, and its status.
-use Rattle.std.specs.Prelude.{ℕ, List, Result, Ok, Err, ⊤, codes}
+use Rattle.std.specs.Prelude.{ℕ, ◌==◌, if◌then◌else◌, List, Result, Ok, Err, ⊤, codes}
 use Rattle.std.specs.declared.io.Error.{Error}
 use Rattle.eden_overlay.specs.declared.files.FilesFault.{FilesFault}
 use Rattle.eden_overlay.specs.declared.files.FilesFault.TheVariants as files
@@ -74,11 +74,18 @@ abbrev pub folder_status : Result ⊤ FolderFault → ℕ
 folder_status (Ok _) = 0
 folder_status (Err (folder.Open fault)) = 3
 folder_status (Err (folder.Session fault)) = 4
+folder_status (Err (folder.Unstored errno)) = 4
 folder_status (Err (folder.Close fault)) = 4
 
 abbrev pub session_name : SessionFault → List ℕ
 session_name session.Receive = codes "Receive"
 session_name session.Memory = codes "Memory"
+
+-- .. and of the error upon which what was written last wasn't stored: EIO (5), ENOMEM (12), ENAMETOOLONG (36), ESTALE (116)
+abbrev pub store_name : ℕ → List ℕ
+store_name errno =
+    if errno == 5 then codes "EIO" else if errno == 12 then codes "ENOMEM"
+    else if errno == 36 then codes "ENAMETOOLONG" else if errno == 116 then codes "ESTALE" else codes "Refused"
 
 -- .. and of a server of objects; how it ended, by how its connections were taken and served
 abbrev pub server_status : Result ⊤ ServerFault → ℕ

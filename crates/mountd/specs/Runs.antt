@@ -13,6 +13,7 @@ use Rattle.eden_fuse_session.specs.declared.receiver.Receiver.{Ghosts as Receive
 use Rattle.eden_fuse_session.specs.declared.sender.Sender.{Ghosts as Sender}
 use Rattle.eden_fuse_session.specs.Turns.{Line}
 use Rattle.eden_fuse_shown.specs.declared.manner.Manner.{Manner}
+use Rattle.eden_fuse_host.specs.Lines.{Coming}
 use Rattle.eden_fuse_life.specs.declared.life.FolderEnding.{FolderEnding}
 use Rattle.eden_fuse_life.specs.Lives.{LivesFolder}
 use Rattle.eden_fuse_shared_life.specs.declared.life.SharedFolderEnding.{SharedFolderEnding}
@@ -65,9 +66,10 @@ module _ {W F I O : Type 0} (w : Ghosts W) (f : Files F W) (i : Read I) (o : Wri
     pub lived : LivesShared w f i o limit base settings files left
     pub told : status ≡ shared_status left.outcome
 
-module _ {W F V O : Type 0} (w : Ghosts W) (f : Files F W) (v : Receiver V) (o : Sender O) (limit : ℕ) where
-  -- a mount was shown as a folder that looks so by several threads, and the status tells how that ended
+module _ {W F V O : Type 0} (w : Ghosts W) (f : Files F W) (v : Receiver V) (o : Sender O) (Comes : Coming) (limit : ℕ) where
+  -- a mount was shown as a folder that looks so by several threads, whose lines give such messages, and the status tells how that
+  -- ended
   pub record IsSharedFolderRun (base : Base) (settings : Settings) (files : F) (manner : Manner) (status : ℕ) : Type 0 where
     pub left : SharedFolderEnding F
-    pub lived : LivesSharedFolder w f v o limit base settings manner files left
+    pub lived : LivesSharedFolder w f v o Comes limit base settings manner files left
     pub told : status ≡ folder_status left.outcome

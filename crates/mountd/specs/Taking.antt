@@ -1,5 +1,5 @@
 -- What is asked of a closed overlay: its snapshot and its changes, and how either run ends.
-use Rattle.std.specs.Prelude.{◌≡◌, ℕ, Result, ⊤, IfOk, IfErr, OnOk}
+use Rattle.std.specs.Prelude.{◌≡◌, ℕ, Result, ⊤, IfOk, IfErr, OnErr, OnOk}
 use Rattle.std.specs.declared.io.Error.{Error}
 use Rattle.eden_model.specs.declared.id.Id.{Id}
 use Rattle.eden_model.specs.declared.world.World.{Ghosts}
@@ -8,10 +8,10 @@ use Rattle.eden_overlay.specs.declared.files.Files.{Ghosts as Files}
 use Rattle.eden_overlay.specs.Files.{Stored}
 use Rattle.eden_snapshot.specs.declared.comparing.ChangeSink.{Ghosts as ChangeSink}
 use Rattle.eden_snapshot.specs.declared.sink.Sink.{Ghosts as Sink}
-use Rattle.eden_snapshot.specs.Changes.{TellsAll}
+use Rattle.eden_snapshot.specs.Changes.{TellsAll, TellsAllSoFar}
 use Rattle.eden_snapshot.specs.Closing.{AreClosedOn, IsClosedFault}
 use Rattle.eden_snapshot.specs.Commits.{submodule_at}
-use Rattle.eden_snapshot.specs.Exact.{TellsExactly}
+use Rattle.eden_snapshot.specs.Exact.{TellsExactly, TellsTruly}
 use Rattle.eden_snapshot.specs.Ordering.{GrowsInOrder}
 use Rattle.eden_snapshot.specs.Pruning.{IsPruned}
 use Rattle.eden_snapshot.specs.Showing.{FilesShow}
@@ -43,11 +43,13 @@ module _ {W F : Type 0} (w : Ghosts W) (f : Files F W) where
     pub written : w.honest → IfOk outcome (λ id. WritesTop (f.stored files) (submodule_at w.repository root) root id (k.filled sink) (k.filled filled))
     pub ordered : w.honest → IfOk outcome (λ _. GrowsInOrder (f.stored files) (k.filled sink).kept (k.filled filled).kept)
 
-  -- The sink was told how what its files show differs from the commit's tree.
+  -- The sink was told how what its files show differs from the commit's tree, or before an error some of that.
   pub record Tells {C : Type 0} (c : ChangeSink C W) (root : Id) (files left : F) (sink filled : C) (outcome : Result ⊤ TakeFault) : Type 0 where
     pub asks : AsksClosed root files left outcome
     pub told : w.honest → OnOk outcome (TellsAll (f.stored files) w.repository root (c.told sink) (c.told filled))
     pub exact : w.honest → OnOk outcome (TellsExactly w.repository root (f.stored files) (c.told sink) (c.told filled))
+    pub told_so_far : w.honest → OnErr outcome (TellsAllSoFar (f.stored files) w.repository root (c.told sink) (c.told filled))
+    pub truly : w.honest → OnErr outcome (TellsTruly w.repository root (f.stored files) (c.told sink) (c.told filled))
 
   -- A snapshot was taken, and the status tells how that ended, and whether its id could be told.
   pub record IsSnapshotRun {K : Type 0} (k : Sink K W) (root : Id) (files : F) (sink : K) (status : ℕ) : Type 0 where

@@ -197,5 +197,5 @@ fn run_with<W: World, F: Files<W>, S: Source<W> + Drop, H: History>(
         &mut input,
         &mut output,
     );
-    report::folder_ending(rt, ending.outcome)
+    report::folder_ending(rt, ending.outcome, ending.unstored)
 }

@@ -53,7 +53,10 @@ pub struct KernelOutput {
 }
 
 impl KernelOutput {
-    pub fn new(output: Stdout) -> KernelOutput {
+    /// It hasn't failed yet.
+    pub fn new(output: Stdout) -> KernelOutput
+        ensures { ⟦<KernelOutput as Sender>⟧.failures result ≡ 0 }
+    {
         KernelOutput {
             output,
             failures: 0,
@@ -97,6 +100,10 @@ impl KernelLines {
 }
 
 impl Lines<KernelInput, KernelOutput> for KernelLines {
+    ghost use Rattle.std.specs.Prelude.{◌≡◌, None};
+
+    ghost comes = { λ _ waiting. waiting ≡ None };
+
     fn line(&self) -> (KernelInput, KernelOutput) {
         (KernelInput::new(self.input), KernelOutput::new(self.output))
     }

@@ -5,7 +5,7 @@ ghost use Rattle.std.specs.Prelude.{◌≡◌};
 ghost use Rattle.std.specs.Process.{exit_status};
 ghost use Rattle.mountd.specs.Endings.{close_name, folder_status, import_status, open_name, repaired_status};
 ghost use Rattle.mountd.specs.Endings.{repository_name, server_status, session_name, shared_status, status_of};
-ghost use Rattle.mountd.specs.Endings.{tidied_status, told_status};
+ghost use Rattle.mountd.specs.Endings.{store_name, tidied_status, told_status};
 
 use crate::server::ServerFault;
 use eden_checkout::{OpenFault, TidyFault};
@@ -27,6 +27,14 @@ const UNOPENED: u8 = 3;
 const FAULT: u8 = 4;
 
 const UNIMPORTED: u8 = 5;
+
+const EIO: u32 = 5;
+
+const ENOMEM: u32 = 12;
+
+const ENAMETOOLONG: u32 = 36;
+
+const ESTALE: u32 = 116;
 
 /// Tells why the arguments can't be read, as where they are not UTF-8. Status 2.
 pub fn arguments<R: Eprint>(rt: &R, error: &io::Error) -> ExitCode
@@ -92,17 +100,49 @@ pub fn shared_ending<R: Eprint>(rt: &R, outcome: Result<(), SharedLifeFault>) ->
     }
 }
 
-/// Tells how a folder's life ended, where it didn't end well: by which fault, without the fault's values.
+/// Tells how a folder's life ended, where it didn't end well: by which fault, without the fault's values. That what was
+/// written last wasn't all stored is told beside the session's fault too.
 ///
-/// Status 0; 3, where the overlay wasn't opened; 4, where the session or the close ended in a fault.
-pub fn folder_ending<R: Eprint>(rt: &R, outcome: Result<(), FolderFault>) -> ExitCode
+/// Status 0; 3, where the overlay wasn't opened; 4, where the session, the last stores or the close ended in a fault.
+pub fn folder_ending<R: Eprint>(
+    rt: &R,
+    outcome: Result<(), FolderFault>,
+    unstored: Option<u32>,
+) -> ExitCode
     ensures { exit_status result ≡ folder_status outcome }
 {
     match outcome {
         Ok(()) => ExitCode::SUCCESS,
         Err(FolderFault::Open(fault)) => unopened(rt, open_name(fault)),
-        Err(FolderFault::Session(fault)) => ended(rt, "session", session_name(fault)),
+        Err(FolderFault::Session(fault)) => session_ended(rt, fault, unstored),
+        Err(FolderFault::Unstored(errno)) => ended(rt, "store", store_name(errno)),
         Err(FolderFault::Close(fault)) => ended(rt, "close", close_name(fault)),
+    }
+}
+
+// Tells by which fault a session with the kernel ended, and upon which error what waited then wasn't stored, if it
+// wasn't. Status 4.
+fn session_ended<R: Eprint>(rt: &R, fault: SessionFault, unstored: Option<u32>) -> ExitCode
+    ensures { exit_status result ≡ 4 }
+{
+    let status = ended(rt, "session", session_name(fault));
+    match unstored {
+        None => status,
+        Some(errno) => ended(rt, "store", store_name(errno)),
+    }
+}
+
+// The name of the error upon which what was written last wasn't stored, if it is one that a mount gives for want of
+// room, of memory or of a path; else that it was refused.
+fn store_name(errno: u32) -> &'static str
+    ensures { result.now ≡ store_name errno }
+{
+    match errno {
+        EIO => "EIO",
+        ENOMEM => "ENOMEM",
+        ENAMETOOLONG => "ENAMETOOLONG",
+        ESTALE => "ESTALE",
+        _ => "Refused",
     }
 }
 

@@ -101,8 +101,8 @@ fn share_fetched<
 ) -> ExitCode
     requires files { W.honest → MayOpen base.opening W.repository W.opening W.numbers base.root (F.stored files) }
     requires sources { IfOk sources (λ sources. limits.now.passes ≤ length sources.items) }
-    ensures run { IsOk sources → IsSharedFolderRun W.World F.Files V.Receiver O.Sender (limit_of history limits.now)
-        base limits.now files look.manner (exit_status result) }
+    ensures run { IsOk sources → IsSharedFolderRun W.World F.Files V.Receiver O.Sender (G.comes lines.now)
+        (limit_of history limits.now) base limits.now files look.manner (exit_status result) }
     ensures refused { IsErr sources → exit_status result ≡ 3 }
 {
     match sources {
@@ -136,8 +136,8 @@ fn run<
     requires files { W.honest → MayOpen base.opening W.repository W.opening W.numbers base.root
         (F.stored backing.files) }
     requires sources { limits.now.passes ≤ length backing.source.items }
-    ensures { IsSharedFolderRun W.World F.Files V.Receiver O.Sender (limit_of history limits.now) base limits.now
-        backing.files look.manner (exit_status result) }
+    ensures { IsSharedFolderRun W.World F.Files V.Receiver O.Sender (G.comes lines.now) (limit_of history limits.now)
+        base limits.now backing.files look.manner (exit_status result) }
 {
     let memory = rt.alloc();
     match history {
@@ -180,8 +180,8 @@ fn run_with<
         (F.stored backing.files) }
     requires empty { H.entries history ≡ [] }
     requires sources { limits.now.passes ≤ length backing.source.items }
-    ensures { IsSharedFolderRun W.World F.Files V.Receiver O.Sender (H.limit history) base limits.now backing.files
-        look.manner (exit_status result) }
+    ensures { IsSharedFolderRun W.World F.Files V.Receiver O.Sender (G.comes lines.now) (H.limit history) base
+        limits.now backing.files look.manner (exit_status result) }
 {
     let ending = live_shared_folder::<W, F, H, S, V, O, G, HostRuntime, R>(
         threads,
@@ -194,5 +194,5 @@ fn run_with<
         *rt,
         lines,
     );
-    report::folder_ending(rt, ending.outcome)
+    report::folder_ending(rt, ending.outcome, ending.unstored)
 }

@@ -15,18 +15,20 @@ never (Err f) e is ok = absurd (cc ok)
 
 pub unreachable-requires : goal.unreachable-requires
 unreachable-requires g c =
-    let same = served_seats g.V.Receiver g.O.Sender g.W.World.honest g.W.World.opening g.W.World.numbers c.args.manner _ _ _ c.show_by-passes.ensures in
+    let same = served_seats g.V.Receiver g.O.Sender (g.G.Lines.comes c.args.lines.now) g.W.World.honest g.W.World.opening g.W.World.numbers c.args.manner _ _ _ _ c.show_by-passes.ensures in
     never _ _ c.in-Err.is (c.finish.ensures.each (each_stays _ _ _ same c.requires.each))
 
 pub returns : goal.returns
 returns g c = λ terms passes.
     let A = g.T.Attempts.table in
     let left = c.show_by-passes.result.0.items in
-    let served = subst (λ (ps : List Carried). IsServed g.V.Receiver g.O.Sender g.W.World.honest g.W.World.opening g.W.World.numbers c.args.manner ps left c.show_by-passes.result.1)
-    passes c.show_by-passes.ensures in
+    let Comes = g.G.Lines.comes c.args.lines.now in
+    let served = subst (λ (ps : List Carried). IsServed g.V.Receiver g.O.Sender Comes g.W.World.honest g.W.World.opening g.W.World.numbers c.args.manner ps left
+    c.show_by-passes.result.1 c.show_by-passes.result.2) passes c.show_by-passes.ensures in
     let agrees = c.in-Ok.ensures.ok in
     let first = agrees.each.each 1 (omega arith) c.holds.ensures.queue.some_passes.0 in
-    let seats = served_seats g.V.Receiver g.O.Sender g.W.World.honest g.W.World.opening g.W.World.numbers c.args.manner (newcomers terms 1 terms.passes) left c.show_by-passes.result.1 served in
+    let seats = served_seats g.V.Receiver g.O.Sender Comes g.W.World.honest g.W.World.opening g.W.World.numbers c.args.manner (newcomers terms 1 terms.passes) left
+    c.show_by-passes.result.1 c.show_by-passes.result.2 served in
     let same = terms_stay terms (newcomers terms 1 terms.passes) left first.1.0 first.0 seats (newcomers_terms terms 1 terms.passes) first.1.1 in
     record {
       ended = c.in-Ok.mount;

@@ -23,12 +23,12 @@ share_folder-shown-requires-clause-ties g c = λ κs within.
 
 pub returns-in-Err : goal.returns-in-Err
 returns-in-Err g c =
-    subst (λ (x : SharedFolderEnding _). LivesShared g.W.World g.F.Files g.V.Receiver g.O.Sender (g.H.History.limit c.args.history) c.args.base c.args.config.now c.args.look.manner
-    c.args.backing.files x) (sym c.unopened.ensures)
-    (inl (record { refused = c.in-Err.ensures.refused; unclosed = refl }))
+    subst (λ (x : SharedFolderEnding _). LivesShared g.W.World g.F.Files g.V.Receiver g.O.Sender (g.G.Lines.comes c.args.lines.now) (g.H.History.limit c.args.history) c.args.base c.args.config.now
+    c.args.look.manner c.args.backing.files x) (sym c.unopened.ensures)
+    (inl (record { refused = c.in-Err.ensures.refused; unstored = refl; unclosed = refl }))
 
 pub returns-in-Ok : goal.returns-in-Ok
 returns-in-Ok g c =
-    ended g.W.World g.F.Files g.V.Receiver g.O.Sender (g.H.History.limit c.args.history) c.args.base c.args.config.now c.args.look.manner c.args.backing.files c.end.result
-    c.in-Ok.table c.in-Ok.room c.share_folder-shown.result c.in-Ok.ensures.opened
+    ended g.W.World g.F.Files g.V.Receiver g.O.Sender (g.G.Lines.comes c.args.lines.now) (g.H.History.limit c.args.history) c.args.base c.args.config.now c.args.look.manner c.args.backing.files
+    c.end.result c.in-Ok.table c.in-Ok.room c.share_folder-shown.result c.in-Ok.ensures.opened
     c.in-Ok.ensures.room c.share_folder-shown.ensures.shown c.share_folder-shown.ensures.err c.end.ensures
