@@ -9,9 +9,9 @@ import pathlib
 import paths  # before what stands in scripts/
 from helpers import running
 from helpers.git import git
-from helpers.running import PATIENCE, STILL_RUNNING, ending_of, finished, status_of, watched
+from helpers.running import PATIENCE, STILL_RUNNING, doing, ending_of, finished, status_of, watched
 
-__all__ = ["PATIENCE", "STILL_RUNNING", "GivenUp", "check", "closing_line", "ending_of", "finished", "git",
+__all__ = ["PATIENCE", "STILL_RUNNING", "GivenUp", "check", "closing_line", "doing", "ending_of", "finished", "git",
            "make_repository", "skip", "status_of", "watched", "whole_tree"]
 
 # After so many programs that hang a script ends: there may be thousands of runs left.

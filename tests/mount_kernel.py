@@ -12,7 +12,6 @@ import sqlite3
 import struct
 import subprocess
 import sys
-import tempfile
 import time
 import traceback
 from collections.abc import Callable, Iterator
@@ -20,6 +19,7 @@ from typing import Any
 
 from checks import PATIENCE, check, finished, git
 from folder_operations import Folder, shown
+from helpers.disks import folder_in_memory
 from mount_calls import CALLS, Steps
 from mount_differences import DIFFERENCES, Differences, opened
 from mount_files import TOLD
@@ -32,17 +32,12 @@ from yakembi.overlay_files import JOURNAL, RECORD_BYTES, STORED, records
 # ---- calls of the system
 
 
-def memory_folder() -> str | None:
-    """A folder in memory, for files whose many changes no disk is to delay; None where there is none."""
-    return "/dev/shm" if os.access("/dev/shm", os.W_OK) else None
-
-
 @contextlib.contextmanager
 def beside_plain(folder: pathlib.Path, repository: pathlib.Path) -> Iterator[tuple[list[pathlib.Path], Differences]]:
     """A mounted folder and a plain one, and their differences. The next mount shows what was left there."""
     differences = Differences(DIFFERENCES)
-    with tempfile.TemporaryDirectory(dir=memory_folder()) as name:
-        plain, overlay = pathlib.Path(name) / "plain", pathlib.Path(name) / "overlay"
+    with folder_in_memory() as inner:
+        plain, overlay = inner / "plain", inner / "overlay"
         with MountGit(repository, "HEAD", folder / "mounted", "--overlay", overlay) as mount:
             tops = [mount.folder / "calls", plain]
             for top in tops:
@@ -101,8 +96,8 @@ def check_random_files(folder: pathlib.Path, repository: pathlib.Path, seed: int
     Each second life is killed once all is closed, and what was closed is in the next one."""
     lives = max(2, operations // OPERATIONS_OF_A_LIFE)
     print(f"random files: {operations:,} operations in {lives} lives, from seed {seed} on")
-    with tempfile.TemporaryDirectory(dir=memory_folder()) as name:
-        plain, overlay = pathlib.Path(name) / "plain", pathlib.Path(name) / "overlay"
+    with folder_in_memory() as inner:
+        plain, overlay = inner / "plain", inner / "overlay"
         plain.mkdir()
         for life in range(lives + 1):
             with MountGit(repository, "HEAD", folder / "mounted", "--overlay", overlay) as mount:

@@ -10,12 +10,12 @@ import pathlib
 import random
 import shutil
 import sys
-import tempfile
 from collections.abc import Iterator
 
 import losing_disk
 from checks import check
 from folder_operations import shown
+from helpers.disks import folder_in_memory
 from losing_disk import FAILS, Kept, kept_in, names_in
 from message_folder import MessageFolder
 from mount_messages import Kernel, showing
@@ -31,8 +31,6 @@ WIDE = b"w" * 180
 NAMES = 760
 # Changes behind the fsync, and how many of them lie between two losses. They fill the journal several times.
 CHANGES, BETWEEN = 700, 100
-# A directory in memory, where waits for the disk take no time.
-IN_MEMORY = pathlib.Path("/dev/shm")
 
 
 def can_watch() -> bool:
@@ -161,8 +159,7 @@ def check_loss(name: str, place: Place, left: dict[str, bytes], wanted: Nodes) -
 
 def check_losses(seed: int) -> None:
     """A folder is filled, waited for and changed on, and the power is lost again and again."""
-    beside = IN_MEMORY if os.access(IN_MEMORY, os.W_OK) else None
-    with tempfile.TemporaryDirectory(dir=beside) as made, Run(folder := pathlib.Path(made), seed) as run:
+    with folder_in_memory() as folder, Run(folder, seed) as run:
         fill(run)
         run.fsync((b"kept", b"1"))
         wanted = shown(run.folder)

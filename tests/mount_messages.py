@@ -15,7 +15,7 @@ import time
 from collections.abc import Sequence
 from typing import Any, Self
 
-from checks import PATIENCE, check, git, status_of
+from checks import PATIENCE, check, doing, git, status_of
 from message_model import (ANSWER, FORGOTTEN, HEADER, HIDDEN, LAYOUTS, ROOT, SHAPES, WORDS, WRITTEN, FolderModel,
                            answered, framed, hidden_name, read_message, spelled, wants_answer)
 from overlays import CLOSED, Commit, Place, check_closed, make_commit
@@ -61,7 +61,7 @@ class Kernel:
         try:
             answer = self.ours.recv(1 << 20)
         except TimeoutError:
-            raise Ended("no answer") from None
+            raise Ended(f"no answer in {PATIENCE} s: {doing(self.process.pid)}") from None
         if not answer:
             raise Ended(f"mountd ended with status {status_of(self.process)}")
         return answer

@@ -60,6 +60,21 @@ def most_own_memory(process: Process) -> int:
     return most_memory(process) - int(found[1]) * 1024 if found else 0
 
 
+def doing(process: int) -> str:
+    """What a process is at, and each that it started: for whoever waits for it. Empty once it is gone."""
+    folder = pathlib.Path(f"/proc/{process}")
+    try:
+        name, _, fields = (folder / "stat").read_text().partition("(")[2].rpartition(")")
+        waits = (folder / "wchan").read_text()
+        started = (folder / "task" / str(process) / "children").read_text().split()
+    except OSError:
+        return ""
+    state, *numbers = fields.split()
+    seconds = (int(numbers[10]) + int(numbers[11])) / os.sysconf("SC_CLK_TCK")
+    here = f"{name} is in state {state}, waits in {waits}, and has used {seconds:.1f} s"
+    return "; ".join(filter(None, [here, *map(doing, map(int, started))]))
+
+
 def kill_hung(process: Process) -> None:
     global hung
     hung += 1
