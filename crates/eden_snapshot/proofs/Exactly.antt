@@ -1,17 +1,11 @@
 -- What is told of names tells exactly where what is shown differs from the commit's tree.
-use Rattle.std.proofs.Common.{◌≡◌, ◌≢◌, ◌⊎◌, inl, inr, ℕ, Bool, true, false, cond, ◌==◌, ◌&&◌, List, [], ◌∷◌, ◌++◌, Option, Some, None, IsSome, Contains, map}
-use Rattle.std.proofs.Common.{refl, sym, ap, ◌∙◌, subst, append_assoc, append-nil, arith, nat_cmp, Less}
-use Rattle.std.specs.List.{AllByRecursion}
+use Rattle.std.proofs.Common.{◌≡◌, ◌≢◌, ◌⊎◌, inl, inr, ℕ, Bool, true, false, cond, ◌==◌, ◌&&◌, List, [], ◌∷◌, ◌++◌, Option, Some, None, IsSome, Contains}
+use Rattle.std.proofs.Common.{refl, sym, ap, ◌∙◌, subst, append-nil}
 use Rattle.std.specs.List.Sorted.{IsStrictlySortedBy}
 use Rattle.std.specs.Map.{lookup}
 use Rattle.std.specs.Option.{option_map, unwrap_or, is_some}
-use Rattle.std.specs.Ordering.{is_eq}
-use Rattle.std.specs.Str.{bytes_eq}
-use Rattle.std.specs.Cmp.Lexicographic.{slice_cmp}
-use Rattle.std.proofs.lemmas.Bool.{eqb-true, and_parts}
-use Rattle.std.proofs.lemmas.Slice.Eq.{bytes_eq-Decides}
-use Rattle.std.proofs.lemmas.Map.Keys.{sorted_head, sorted_tail}
-use Rattle.std.proofs.lemmas.List.Elements.{Contains-append_left, Contains-append_right, Contains-append_cases, Contains-push, Contains-push_cases}
+use Rattle.std.proofs.lemmas.Bool.{eqb-true}
+use Rattle.std.proofs.lemmas.List.Elements.{Contains-append_cases}
 use Rattle.eden_model.specs.declared.id.Id.{Id}
 use Rattle.eden_model.specs.declared.kind.Kind.{Kind}
 use Rattle.eden_model.specs.declared.kind.Kind.TheVariants as kind
@@ -25,7 +19,7 @@ use Rattle.eden_model.specs.declared.tree_entry.TreeEntry.{TreeEntry}
 use Rattle.eden_model.specs.Keys.{same_id}
 use Rattle.eden_model.specs.Named.{AreRising}
 use Rattle.eden_model.specs.Operations.{kind_of}
-use Rattle.eden_model.specs.Repository.{Repository, Source, Object, Own, Empty, source_of, item_by, entry_named, ground_with, root_of, Whole}
+use Rattle.eden_model.specs.Repository.{Repository, Source, Object, Own, Empty, source_of, item_by, entry_named, ground_with, Whole}
 use Rattle.eden_model.specs.Repository as repository
 use Rattle.eden_model.specs.Shown.{Item, Ground, node_of, shown, shown_at}
 use Rattle.eden_model.specs.Trees.{Name, Path, Tree}
@@ -38,7 +32,7 @@ use Rattle.eden_overlay.proofs.CallerLemmas.{held_storable}
 use Rattle.eden_snapshot.specs.declared.change.Change.{Change}
 use Rattle.eden_snapshot.specs.declared.change.How.TheVariants as how
 use Rattle.eden_snapshot.specs.declared.rows.Row.{Row}
-use Rattle.eden_snapshot.specs.Changes.{Told, Stand, StandsAs, StandsBy, StandsAsBlob, own_directory, own_directory_by, number_of, sort_of, may_be, is_same, is_tree, is_whole, told_of, change_of}
+use Rattle.eden_snapshot.specs.Changes.{Told, Stand, StandsAs, StandsBy, StandsAsBlob, own_directory, own_directory_by, number_of, sort_of, is_same, is_tree, is_whole, told_of, change_of}
 use Rattle.eden_snapshot.specs.Changes.{Differ, none, alone, within, HasInside, TellsAll, untouched, own}
 use Rattle.eden_snapshot.specs.Changes.{DifferSoFar, stopped, passed, begun, entered, TellsSome, TellsAllSoFar}
 use Rattle.eden_snapshot.specs.Commits.{Place, place_of, place_named}
@@ -46,184 +40,12 @@ use Rattle.eden_snapshot.specs.Exact.{shows_as, sort_shown, TellsLess, AreApart,
 use Rattle.eden_snapshot.specs.Rows.{Rows, AreRows, nothing, is_name, row_in, stored_named}
 use Rattle.eden_snapshot.specs.Showing.{FilesShow}
 use Rattle.eden_snapshot.specs.Written.{mode_of}
-use Rattle.eden_snapshot.proofs.Found.{AreFine, fine}
-use Rattle.eden_snapshot.proofs.Gathered.{same_name}
+use Rattle.eden_snapshot.proofs.Found.{fine}
 use Rattle.eden_snapshot.proofs.Thinned.{dir, at_top, at_name, own_entries, tree_entries, by_kind, commit_shows, own_shows}
 use Rattle.eden_snapshot.proofs.Wholes.{whole_alike}
-
--- ---- modes and changes
-
-abbrev mode_by : ℕ → Mode
-mode_by n = cond (n == 0) mode.File (cond (n == 1) mode.Exec (cond (n == 2) mode.Link (cond (n == 3) mode.Dir mode.Gitlink)))
-
-numbered : (m : Mode) → mode_by (number_of m) ≡ m
-numbered mode.File = refl
-numbered mode.Exec = refl
-numbered mode.Link = refl
-numbered mode.Dir = refl
-numbered mode.Gitlink = refl
-
-same_mode : (m n : Mode) → (number_of m == number_of n) ≡ true → m ≡ n
-same_mode m n h = sym (numbered m) ∙ ap mode_by (eqb-true (number_of m) (number_of n) h) ∙ numbered n
-
--- the sorts as they are shown: a submodule as a directory
-abbrev up : ℕ → ℕ
-up n = cond (n == 3) 2 n
-
-other_sort : (m n : Mode) → (sort_of m == sort_of n) ≡ false → up (sort_of m) ≡ up (sort_of n) → up (sort_of m) ≡ 2
-other_sort mode.File mode.File differ same = absurd (cc)
-other_sort mode.File mode.Exec differ same = absurd (cc)
-other_sort mode.File mode.Link differ same = absurd (cc)
-other_sort mode.File mode.Dir differ same = absurd (cc)
-other_sort mode.File mode.Gitlink differ same = absurd (cc)
-other_sort mode.Exec mode.File differ same = absurd (cc)
-other_sort mode.Exec mode.Exec differ same = absurd (cc)
-other_sort mode.Exec mode.Link differ same = absurd (cc)
-other_sort mode.Exec mode.Dir differ same = absurd (cc)
-other_sort mode.Exec mode.Gitlink differ same = absurd (cc)
-other_sort mode.Link mode.File differ same = absurd (cc)
-other_sort mode.Link mode.Exec differ same = absurd (cc)
-other_sort mode.Link mode.Link differ same = absurd (cc)
-other_sort mode.Link mode.Dir differ same = absurd (cc)
-other_sort mode.Link mode.Gitlink differ same = absurd (cc)
-other_sort mode.Dir n differ same = refl
-other_sort mode.Gitlink n differ same = refl
-
-split_none : (a s : Bool) (x y : Change) → cond a (cond s None (Some x)) (Some y) ≡ None → s ≡ true
-split_none true true x y h = refl
-split_none true false x y h = absurd (cc)
-split_none false s x y h = absurd (cc)
-
--- what is told is the one or the other
-abbrev IsOneOf : Bool → Bool → Change → Change → Change → Type 0
-IsOneOf a s x y c = ((a ≡ true) × ((s ≡ false) × (x ≡ c))) ⊎ ((a ≡ false) × (y ≡ c))
-
-split_some : (a s : Bool) (x y c : Change) → cond a (cond s None (Some x)) (Some y) ≡ Some c → IsOneOf a s x y c
-split_some true true x y c h = absurd (cc)
-split_some true false x y c h = let is : x ≡ c = cc in inl (refl, (refl, is))
-split_some false s x y c h = let is : y ≡ c = cc in inr (refl, is)
-
--- the two changes of one mode
-abbrev changed : Place → Stand → Change
-changed place stand = record { how = how.Modified; mode = stand.0; whole = is_whole (is_tree place.0) stand }
-
-abbrev turned : Place → Stand → Change
-turned place stand = record { how = how.Retyped; mode = stand.0; whole = is_whole (is_tree place.0) stand }
-
-abbrev IsTold : Place → Stand → Change → Type 0
-IsTold place stand c = IsOneOf (sort_of place.0 == sort_of stand.0) (is_same place stand) (changed place stand) (turned place stand) c
-
-told_as : (place : Place) (stand : Stand) (c : Change) → change_of (Some place) (Some stand) ≡ Some c → IsTold place stand c
-told_as place stand c h = split_some (sort_of place.0 == sort_of stand.0) (is_same place stand) (changed place stand) (turned place stand) c h
-
--- no change: the same mode, and maybe one id
-same_stands : (place : Place) (stand : Stand) → change_of (Some place) (Some stand) ≡ None → (place.0 ≡ stand.0) × (may_be place.1 stand.1 ≡ true)
-same_stands place stand h =
-    let s = split_none (sort_of place.0 == sort_of stand.0) (is_same place stand) (changed place stand) (turned place stand) h in
-    let parts = and_parts (number_of place.0 == number_of stand.0) (may_be place.1 stand.1) s in
-    (same_mode place.0 stand.0 parts.0, parts.1)
-
-whole_by : (place : Place) (stand : Stand) (c : Change) → IsTold place stand c → c.whole ≡ is_whole (is_tree place.0) stand
-whole_by place stand c (inl at) = ap (λ (d : Change). d.whole) (sym at.1.1)
-whole_by place stand c (inr at) = ap (λ (d : Change). d.whole) (sym at.1)
-
-whole_told : (place : Place) (stand : Stand) (c : Change) → change_of (Some place) (Some stand) ≡ Some c → c.whole ≡ is_whole (is_tree place.0) stand
-whole_told place stand c h = whole_by place stand c (told_as place stand c h)
-
--- ---- rows by their names
-
-told_name : (n k : Name) → is_name n k ≡ true → n ≡ k
-told_name n k h = sym ((bytes_eq-Decides k n).0 (sym (same_name n k) ∙ h))
-
-its_name : (k : Name) → is_name k k ≡ true
-its_name k = same_name k k ∙ (bytes_eq-Decides k k).1 refl
-
-absent_above : (k : Name) (rows : Rows) → AllByRecursion (λ (m : Name). slice_cmp nat_cmp k m ≡ Less) (map (λ r. r.0) rows) → lookup (is_name k) rows ≡ None
-absent_above k [] above = refl
-absent_above k (r ∷ rows) above =
-    ap (λ o. cond (is_eq o) (Some r.1) (lookup (is_name k) rows)) above.0 ∙ absent_above k rows above.1
-
--- behind a row there is none of its name
-absent : (r : Name × Row) (rows : Rows) → AreRising (λ r. r.0) (r ∷ rows) → row_in rows r.0 ≡ nothing
-absent r rows rising = ap (λ o. unwrap_or o nothing) (absent_above r.0 rows (sorted_head (slice_cmp nat_cmp) r.0 (map (λ r. r.0) rows) rising))
-
-behind : (r : Name × Row) (rows : Rows) → AreRising (λ r. r.0) (r ∷ rows) → AreRising (λ r. r.0) rows
-behind r rows rising = sorted_tail (slice_cmp nat_cmp) r.0 (map (λ r. r.0) rows) rising
-
-at_first : (r : Name × Row) (rows : Rows) → row_in (r ∷ rows) r.0 ≡ r.1
-at_first r rows = ap (λ b. unwrap_or (cond b (Some r.1) (lookup (is_name r.0) rows)) nothing) (its_name r.0)
-
-at_later : (n : Name) (r : Name × Row) (rows : Rows) → is_name n r.0 ≡ false → row_in (r ∷ rows) n ≡ row_in rows n
-at_later n r rows other = ap (λ b. unwrap_or (cond b (Some r.1) (lookup (is_name n) rows)) nothing) other
-
--- a directory alone has no contents
-abbrev IsFine : Option StoredEntry → Type 0
-IsFine None = Unit {0}
-IsFine (Some e) = HasOrigin e.kind e.origin
-
-abbrev AreAllFine : Rows → Type 0
-AreAllFine rows = AllByRecursion (λ r. IsFine r.1.new) rows
-
-fine_or : (n : Name) (b : Bool) (x : StoredEntry) (es : List StoredEntry) → HasOrigin x.kind x.origin → IsFine (stored_named n es)
-    → IsFine (cond b (Some x) (stored_named n es))
-fine_or n true x es this others = this
-fine_or n false x es this others = others
-
-fine_named : (n : Name) (es : List StoredEntry) → AreFine es → IsFine (stored_named n es)
-fine_named n [] are = tt
-fine_named n (x ∷ es) are = fine_or n (bytes_eq n x.name) x es are.1 (fine_named n es are.2)
-
-fine_behind : (n : Name) (r : Name × Row) (rows : Rows) (b : Bool) → is_name n r.0 ≡ b → AreRising (λ r. r.0) (r ∷ rows)
-    → ((m : Name) → IsFine (row_in (r ∷ rows) m).new) → IsFine (row_in rows n).new
-fine_behind n r rows true same rising each =
-    let none : row_in rows n ≡ nothing = ap (λ (m : Name). row_in rows m) (told_name n r.0 same) ∙ absent r rows rising in
-    subst (λ (row : Row). IsFine row.new) (sym none) tt
-fine_behind n r rows false same rising each = subst (λ (row : Row). IsFine row.new) (at_later n r rows same) (each n)
-
-fine_rows : (rows : Rows) → AreRising (λ r. r.0) rows → ((n : Name) → IsFine (row_in rows n).new) → AreAllFine rows
-fine_rows [] rising each = tt
-fine_rows (r ∷ rows) rising each = (
-  subst (λ (row : Row). IsFine row.new) (at_first r rows) (each r.0),
-  fine_rows rows (behind r rows rising) (λ n. fine_behind n r rows (is_name n r.0) refl rising each),
-)
-
-all_fine : (old : List TreeEntry) (new : List StoredEntry) (rows : Rows) → AreRows old new rows → AreFine new → AreAllFine rows
-all_fine old new rows are fine_new =
-    fine_rows rows are.rising (λ n. subst (λ (row : Row). IsFine row.new) (sym (are.at n)) (fine_named n new fine_new))
-
--- ---- paths that are covered
-
-one_of : {A B : Type 0} (C : Type 0) → (A → C) → (B → C) → A ⊎ B → C
-one_of C left right (inl a) = left a
-one_of C left right (inr b) = right b
-
-nothing_in : (t : Told) → Contains [] t → ⊥
-nothing_in t h = omega (arith, h.1)
-
-covered_left : (xs ys : List Told) (p : Path) → IsCovered xs p → IsCovered (xs ++ ys) p
-covered_left xs ys p c = (c.0, (Contains-append_left xs ys c.0 c.1.0, c.1.1))
-
-covered_right : (xs ys : List Told) (p : Path) → IsCovered ys p → IsCovered (xs ++ ys) p
-covered_right xs ys p c = (c.0, (Contains-append_right xs ys c.0 c.1.0, c.1.1))
-
-one_in : (t : Told) → Contains (t ∷ []) t
-one_in t = Contains-push [] t
-
-only_in : (t u : Told) → Contains (t ∷ []) u → t ≡ u
-only_in t u h = one_of (t ≡ u) (λ before. absurd (nothing_in u before)) (λ same. same) (Contains-push_cases [] t u h)
-
-below_of : (front : Path) (n m : Name) (q : Path) → (front ++ n ∷ []) ++ m ∷ q ≡ front ++ n ∷ m ∷ q
-below_of front n m q = append_assoc front (n ∷ []) (m ∷ q)
-
-never_leads : (c : Change) (o q : Option Node) → LeadsTo c o q → o ≡ None → q ≡ None → ⊥
-never_leads c o q (added d x how_is kind_is) none_old none_new = absurd (cc)
-never_leads c o q (removed d x how_is kind_is) none_old none_new = absurd (cc)
-never_leads c o q (modified d x y how_is kind_is sort_is differ) none_old none_new = absurd (cc)
-never_leads c o q (retyped d x y how_is kind_is differ) none_old none_new = absurd (cc)
-
--- some id
-any_id : Id
-any_id = record { bytes = [] }
+use Rattle.eden_snapshot.proofs.Turned.{up, other_sort, IsTold, told_as, same_stands, whole_told}
+use Rattle.eden_snapshot.proofs.Named.{told_name, absent, behind, at_first, at_later, IsFine, AreAllFine, all_fine}
+use Rattle.eden_snapshot.proofs.Covered.{one_of, nothing_in, covered_left, covered_right, one_in, only_in, below_of, never_leads, any_id}
 
 -- ---- what a row showed and shows
 

@@ -6,4 +6,7 @@ pub mod Ordered
 pub mod Trails
 mod Differing
 mod Gathered
+mod Turned
+mod Named
+mod Covered
 mod Exactly
