@@ -22,8 +22,8 @@ FUNCTION = re.compile(r"^(?:pub\(crate\) )?fn (\w+)<'a>\(.*?^}$", re.M | re.S)
 TEXT = re.compile(r'^const (\w+): &str = "(.*)";$', re.M)
 # In the body of a function: an option that is added, or the line that another function makes and adds to.
 STEP = re.compile(r'with_(required|optional|flag)\(\s*alloc,\s*line,\s*(?:\("([\w-]+)", "(\w+)"\)|"([\w-]+)"),\s*'
-                  r'(?:"([^"]*)"|(\w+)),?\s*\)|(mount_line|closed_line|with_kept_options)\(\s*alloc,')
-ABOUT = re.compile(r'(?:(?:mount|closed)_line\(\s*alloc,\s*"(\w+)",\s*|Command::new\(alloc, "(\w+)"\)\s*'
+                  r'(?:"([^"]*)"|(\w+)),?\s*\)|(mount_line|overlay_line|with_kept_options)\(\s*alloc,')
+ABOUT = re.compile(r'(?:(?:mount|overlay)_line\(\s*alloc,\s*"(\w+)",\s*|Command::new\(alloc, "(\w+)"\)\s*'
                    r'\.about\(\s*)"([^"]*)"')
 
 

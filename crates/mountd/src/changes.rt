@@ -15,7 +15,7 @@ use eden_model::{Id, Outside, World};
 use eden_overlay::{Files, Overlay};
 use eden_snapshot::{ChangeSink, SnapshotFault, expect_closed};
 use eden_source::Source;
-use mountd_options::{ClosedOptions, Objects};
+use mountd_options::{ChangesOptions, Objects, OverlayOptions};
 use std::alloc::Global;
 use std::process::ExitCode;
 
@@ -28,13 +28,13 @@ struct Closed {
 
 /// Prints how what a closed overlay shows differs from the tree that it stands on, a line for each path. The overlay's
 /// files stay as they were.
-pub fn changes(rt: &HostRuntime, options: ClosedOptions) -> ExitCode {
-    let ClosedOptions {
+pub fn changes(rt: &HostRuntime, options: ChangesOptions) -> ExitCode {
+    let OverlayOptions {
         root,
         objects,
-        overlay,
-    } = options;
-    match hold_existing(rt, rt.alloc(), overlay) {
+        folder,
+    } = options.overlay;
+    match hold_existing(rt, rt.alloc(), folder) {
         Err(fault) => report::unopened(rt, fault.name()),
         Ok((folder, lock)) => {
             let status = match overlay_files(rt, folder) {

@@ -17,7 +17,7 @@ use eden_object_writer::{Progress, Store};
 use eden_overlay::{Files, Overlay};
 use eden_snapshot::{ClosedFault, CommitSubmodules, Sink, SnapshotFault, expect_closed};
 use eden_source::Source;
-use mountd_options::{ClosedOptions, Objects, SnapshotOptions};
+use mountd_options::{Objects, OverlayOptions, SnapshotOptions};
 use std::alloc::Global;
 use std::io;
 use std::path::PathBuf;
@@ -59,12 +59,12 @@ impl From<SnapshotFault> for TakeFault {
 /// Makes objects of what a closed overlay shows, and prints the id of its tree. The overlay's files stay as they were.
 pub fn snapshot(rt: &HostRuntime, options: SnapshotOptions) -> ExitCode {
     let SnapshotOptions { closed, into } = options;
-    let ClosedOptions {
+    let OverlayOptions {
         root,
         objects,
-        overlay,
+        folder,
     } = closed;
-    match hold_existing(rt, rt.alloc(), overlay) {
+    match hold_existing(rt, rt.alloc(), folder) {
         Err(fault) => report::unopened(rt, fault.name()),
         Ok((folder, lock)) => {
             let store = Store::new(*rt, PathBuf::from(into), Progress::Quiet);

@@ -14,8 +14,6 @@ use Rattle.mountd_options.specs.Grammar.{LineOption, Subcommand, flag, optional,
 use Rattle.mountd_options.specs.Numbers.{GivesNumber, IsNoValue, SaysNumber, number_name}
 use Rattle.mountd_options.specs.declared.numbers.NumberOption.{NumberOption}
 use Rattle.mountd_options.specs.declared.numbers.NumberOption.TheVariants.{History, CacheEntries, CacheBytes, Port, Sessions, Fetchers, Threads, Since}
-use Rattle.mountd_options.specs.declared.closed.ClosedOptions.{ClosedOptions}
-use Rattle.mountd_options.specs.declared.closed.SnapshotOptions.{SnapshotOptions}
 use Rattle.mountd_options.specs.declared.command.Command.{Command}
 use Rattle.mountd_options.specs.declared.command.Command.TheVariants as command
 use Rattle.mountd_options.specs.declared.command.HistoryOption.TheVariants as keeping
@@ -35,6 +33,9 @@ use Rattle.mountd_options.specs.declared.command.Served.TheVariants as of
 use Rattle.mountd_options.specs.declared.command.ServerCommand.{ServerCommand}
 use Rattle.mountd_options.specs.declared.command.ServerCommand.TheVariants as server
 use Rattle.mountd_options.specs.declared.command.TidyOptions.{TidyOptions}
+use Rattle.mountd_options.specs.declared.overlays.ChangesOptions.{ChangesOptions}
+use Rattle.mountd_options.specs.declared.overlays.OverlayOptions.{OverlayOptions}
+use Rattle.mountd_options.specs.declared.overlays.SnapshotOptions.{SnapshotOptions}
 use Rattle.mountd_options.specs.declared.repair.RepairOptions.{RepairOptions}
 
 -- the name of a command over a commit's tree
@@ -101,15 +102,15 @@ repair_options = required (codes "root") ∷ required (codes "overlay") ∷ []
 abbrev pub repair : Subcommand
 repair = (codes "repair", repair_options)
 
--- `--root ID --overlay DIR [--objects DIR] [--git DIR] [--remote SERVER]`, of whatever looks at a closed overlay
-abbrev pub closed_options : List LineOption
-closed_options = required (codes "root") ∷ required (codes "overlay") ∷ optional (codes "objects") ∷ optional (codes "git")
+-- `--root ID --overlay DIR [--objects DIR] [--git DIR] [--remote SERVER]`, of whatever looks at an overlay
+abbrev pub overlay_options : List LineOption
+overlay_options = required (codes "root") ∷ required (codes "overlay") ∷ optional (codes "objects") ∷ optional (codes "git")
     ∷ optional (address_name Remote) ∷ []
 
 abbrev pub snapshot_options : List LineOption
-snapshot_options = closed_options ++ required (codes "into") ∷ []
+snapshot_options = overlay_options ++ required (codes "into") ∷ []
 
--- `snapshot` with the options of a closed overlay, and `--into DIR`
+-- `snapshot` with the options of an overlay, and `--into DIR`
 abbrev pub snapshot : Subcommand
 snapshot = (command_name by.Snapshot, snapshot_options)
 
@@ -120,9 +121,12 @@ fuse_options = mount_options ++ optional (number_name Threads) ∷ optional (num
 abbrev pub fuse : Subcommand
 fuse = (command_name by.Fuse, fuse_options)
 
--- `changes` with the options of a closed overlay
+abbrev pub changes_options : List LineOption
+changes_options = overlay_options ++ flag (codes "running") ∷ []
+
+-- `changes` with the options of an overlay, and `[--running]`
 abbrev pub changes : Subcommand
-changes = (command_name by.Changes, closed_options)
+changes = (command_name by.Changes, changes_options)
 
 abbrev pub subcommands : List Subcommand
 subcommands = stdio ∷ serve ∷ objects ∷ import ∷ tidy ∷ repair ∷ snapshot ∷ fuse ∷ changes ∷ []
@@ -268,16 +272,21 @@ pub record IsRepair (value : Text → Option Text) (options : RepairOptions) : T
   pub root : value (codes "root") ≡ Some (encode_lower options.root.bytes)
   pub overlay : value (codes "overlay") ≡ Some (string_bytes options.overlay)
 
--- which closed overlay is to be looked at is what these values say
-pub record IsClosed (value : Text → Option Text) (options : ClosedOptions) : Type 0 where
+-- which overlay is to be looked at is what these values say
+pub record IsOverlay (value : Text → Option Text) (options : OverlayOptions) : Type 0 where
   pub root : value (codes "root") ≡ Some (encode_lower options.root.bytes)
   pub objects : SaysObjects value options.objects
-  pub overlay : value (codes "overlay") ≡ Some (string_bytes options.overlay)
+  pub folder : value (codes "overlay") ≡ Some (string_bytes options.folder)
 
 -- .. and where its objects come to lie
 pub record IsSnapshot (value : Text → Option Text) (options : SnapshotOptions) : Type 0 where
-  pub closed : IsClosed value options.closed
+  pub closed : IsOverlay value options.closed
   pub into : value (codes "into") ≡ Some (string_bytes options.into)
+
+-- .. and whether a mount runs over it
+pub record IsChanges (value : Text → Option Text) (options : ChangesOptions) : Type 0 where
+  pub overlay : IsOverlay value options.overlay
+  pub running : IsTrue options.is_running ↔ IsGiven value (codes "running")
 
 -- the words ask which program this is: behind its name there is `--version` alone, which `clap` never sees
 abbrev pub AsksVersion : List Text → Type 0
@@ -293,7 +302,7 @@ AsksFor words (command.Import options) = (named words ≡ Some import.0) × IsIm
 AsksFor words (command.Tidy options) = (named words ≡ Some tidy.0) × IsTidy (value_of words) options
 AsksFor words (command.Repair options) = (named words ≡ Some repair.0) × IsRepair (value_of words) options
 AsksFor words (command.Snapshot options) = (named words ≡ Some snapshot.0) × IsSnapshot (value_of words) options
-AsksFor words (command.Changes options) = (named words ≡ Some changes.0) × IsClosed (value_of words) options
+AsksFor words (command.Changes options) = (named words ≡ Some changes.0) × IsChanges (value_of words) options
 AsksFor words command.Version = AsksVersion words
 
 -- `clap` takes the words

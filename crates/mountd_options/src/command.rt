@@ -21,9 +21,9 @@ ghost use Rattle.mountd_options.specs.declared.command.OptionsError.TheVariants 
 ghost use Rattle.mountd_options.specs.declared.command.ServerCommand.TheVariants as server;
 
 use crate::addresses::AddressOption;
-use crate::closed::{ClosedOptions, SnapshotOptions, changes_options, snapshot_options};
 use crate::grammar::command_line;
 use crate::numbers::NumberOption;
+use crate::overlays::{ChangesOptions, SnapshotOptions, changes_options, snapshot_options};
 use crate::repair::{RepairOptions, repair_options};
 use clap::ArgMatches;
 use clap::error::ErrorKind;
@@ -96,7 +96,7 @@ pub enum MountCommand {
     Snapshot,
     /// The kernel, over its FUSE protocol.
     Fuse,
-    /// It tells what a closed overlay changed.
+    /// It tells what an overlay changed.
     Changes,
 }
 
@@ -235,7 +235,7 @@ pub enum Command {
     Tidy(TidyOptions),
     Repair(RepairOptions),
     Snapshot(SnapshotOptions),
-    Changes(ClosedOptions),
+    Changes(ChangesOptions),
     /// Which program this is.
     Version,
 }
@@ -562,7 +562,7 @@ fn overlay(alloc: Global, given: &ArgMatches) -> Result<Option<String>, AllocErr
 }
 
 /// Whether the flag of this name is given.
-fn is_given(given: &ArgMatches, name: &str) -> bool
+pub(crate) fn is_given(given: &ArgMatches, name: &str) -> bool
     ensures { IsTrue result ↔ IsGiven (first_value (found_of given.now)) name.now }
 {
     given.get_str(name) == Some("true")

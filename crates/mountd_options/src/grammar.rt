@@ -6,7 +6,7 @@ ghost use Rattle.mountd_options.specs.CommandLine.{fuse, import, kept_options, m
 ghost use Rattle.mountd_options.specs.CommandLine.{repair, serve, stdio, tidy};
 ghost use Rattle.mountd_options.specs.Grammar.{flag, option_rule, optional, required, subcommand_shape, with_options};
 
-use crate::closed::{changes_line, snapshot_line};
+use crate::overlays::{changes_line, snapshot_line};
 use clap::{Arg, ArgAction};
 use std::alloc::{AllocError, Global};
 
@@ -264,7 +264,7 @@ pub(crate) fn with_optional<'a>(
 }
 
 /// The line with a flag more, of this name.
-fn with_flag<'a>(
+pub(crate) fn with_flag<'a>(
     alloc: Global,
     line: clap::Command<'a>,
     name: &'a str,

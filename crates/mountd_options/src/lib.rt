@@ -6,17 +6,17 @@
 #![tactic(auto)]
 
 mod addresses;
-mod closed;
 mod command;
 mod grammar;
 mod numbers;
+mod overlays;
 mod repair;
 
 pub use addresses::AddressOption;
-pub use closed::{ClosedOptions, SnapshotOptions};
 pub use command::{
     Command, FuseOptions, HistoryOption, ImportOptions, MountCommand, MountOptions, Objects,
     ObjectsOptions, OptionsError, ServeOptions, Served, ServerCommand, TidyOptions, options,
 };
 pub use numbers::NumberOption;
+pub use overlays::{ChangesOptions, OverlayOptions, SnapshotOptions};
 pub use repair::RepairOptions;

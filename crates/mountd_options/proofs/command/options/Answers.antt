@@ -1,7 +1,7 @@
 use Rattle.std.proofs.Common.{rules, ◌≡◌, refl, inl, inr, Some, map}
 use Rattle.clap.specs.Matches.{found_of, subcommand_name_of}
 use Rattle.clap.specs.Simple.{subcommand_of, subcommand_rows_of}
-use Rattle.mountd_options.specs.CommandLine.{AreServed, IsClosed, IsFolder, IsImport, IsMount, IsRepair, IsServed, IsSnapshot, IsTaken, IsTidy}
+use Rattle.mountd_options.specs.CommandLine.{AreServed, IsChanges, IsFolder, IsImport, IsMount, IsRepair, IsServed, IsSnapshot, IsTaken, IsTidy}
 use Rattle.mountd_options.specs.CommandLine.{Refuses, changes, fuse, import, mountd_line, objects, repair, serve, snapshot, stdio, tidy}
 use Rattle.mountd_options.specs.declared.command.MountCommand.TheVariants as by
 use Rattle.mountd_options.proofs.LineLemmas.{by_words, import-named, met-named, named-met, objects_refuse, repair_refuses, required-taken, values_refuse}
@@ -236,7 +236,7 @@ returns-in-Some-subcommand_matches-7-clause-ok g c =
     let name : subcommand_name_of c.in_ok-matches.matches ≡ Some changes.0 = c.in-Some-subcommand_matches-7.ensures.found.0 refl in
     let met = met-named words c.in_ok-matches.matches f changes.0 rows name c.in-Some-subcommand_matches-7.ensures.rows in
     let asked = c.in_ok-changes_options.field-0 in
-    (named-met words f changes.0 met, by_words (λ value. IsClosed value asked) words f changes.0 met c.in_ok-changes_options.ensures.ok)
+    (named-met words f changes.0 met, by_words (λ value. IsChanges value asked) words f changes.0 met c.in_ok-changes_options.ensures.ok)
 
 pub unwrap-given-requires : goal.unwrap-given-requires
 unwrap-given-requires g c =

@@ -1,60 +1,70 @@
-//! What the commands are asked for that look at a closed overlay.
+//! What the commands are asked for that look at an overlay.
 ghost use Rattle.std.specs.Prelude.{◌≡◌, IfErr, IfOk, false};
 ghost use Rattle.clap.specs.declared.builder.command.Command.TheViews.{out-Command as fields_of};
 ghost use Rattle.clap.specs.Words.{first_value, found_of, rows_of, shape_of};
-ghost use Rattle.mountd_options.specs.CommandLine.{IsClosed, IsSnapshot, RefusesValues};
-ghost use Rattle.mountd_options.specs.CommandLine.{changes, closed_options, snapshot, snapshot_options};
+ghost use Rattle.mountd_options.specs.CommandLine.{IsChanges, IsOverlay, IsSnapshot, RefusesValues};
+ghost use Rattle.mountd_options.specs.CommandLine.{changes, changes_options, overlay_options};
+ghost use Rattle.mountd_options.specs.CommandLine.{snapshot, snapshot_options};
 ghost use Rattle.mountd_options.specs.Grammar.{HasRequired, subcommand_shape};
 ghost use Rattle.mountd_options.specs.declared.command.MountCommand.TheVariants as by;
 
-use crate::command::{MountCommand, Objects, OptionsError, objects_of};
-use crate::grammar::{with_optional, with_required};
+use crate::command::{MountCommand, Objects, OptionsError, is_given, objects_of};
+use crate::grammar::{with_flag, with_optional, with_required};
 use clap::ArgMatches;
 use eden_model::Id;
 use eden_object::parse_id;
 use std::alloc::{AllocError, Global};
 
-/// Which closed overlay is to be looked at, as `mountd changes` does.
+/// Which overlay is to be looked at.
 #[derive(Drop)]
-pub struct ClosedOptions {
+pub struct OverlayOptions {
     /// The tree of the commit that it stands on.
     pub root: Id,
     /// Where the commit's objects come from.
     pub objects: Objects,
-    /// The folder of the overlay.
-    pub overlay: String,
+    /// Where its files lie.
+    pub folder: String,
 }
 
 /// What `mountd snapshot` is asked for.
 #[derive(Drop)]
 pub struct SnapshotOptions {
-    /// The overlay.
-    pub closed: ClosedOptions,
+    /// The overlay, which is a closed one.
+    pub closed: OverlayOptions,
     /// The folder that the objects come to lie in.
     pub into: String,
 }
 
-/// The closed overlay that the command is to look at.
+/// What `mountd changes` is asked for.
+#[derive(Drop)]
+pub struct ChangesOptions {
+    /// The overlay, which is a closed one if no mount runs over it.
+    pub overlay: OverlayOptions,
+    /// Whether a mount runs over it: then it isn't held, and nothing may change it meanwhile.
+    pub is_running: bool,
+}
+
+/// The overlay that the command is to look at.
 ///
 /// Of several errors the root's is told, and then that of where the objects come from.
-pub(crate) fn closed_options(
+pub(crate) fn overlay_options(
     alloc: Global,
     given: &ArgMatches,
     command: MountCommand,
-) -> Result<ClosedOptions, OptionsError>
-    requires { HasRequired closed_options (rows_of (found_of given.now)) }
-    ensures ok { IfOk result (IsClosed (first_value (found_of given.now))) }
+) -> Result<OverlayOptions, OptionsError>
+    requires { HasRequired overlay_options (rows_of (found_of given.now)) }
+    ensures ok { IfOk result (IsOverlay (first_value (found_of given.now))) }
     ensures err { IfErr result (RefusesValues command (first_value (found_of given.now))) }
 {
     let root = given.get_str("root").unwrap();
-    let overlay = given.get_str("overlay").unwrap();
+    let folder = given.get_str("overlay").unwrap();
     let root = parse_id(root).ok_or(OptionsError::Root)?;
     let objects = objects_of(alloc, given, command)?;
-    let overlay = String::from_str(alloc, overlay)?;
-    Ok(ClosedOptions {
+    let folder = String::from_str(alloc, folder)?;
+    Ok(OverlayOptions {
         root,
         objects,
-        overlay,
+        folder,
     })
 }
 
@@ -67,7 +77,7 @@ pub(crate) fn snapshot_options(
     ensures err { IfErr result (RefusesValues by.Snapshot (first_value (found_of given.now))) }
 {
     let into = given.get_str("into").unwrap();
-    let closed = closed_options(alloc, given, MountCommand::Snapshot)?;
+    let closed = overlay_options(alloc, given, MountCommand::Snapshot)?;
     let into = String::from_str(alloc, into)?;
     Ok(SnapshotOptions { closed, into })
 }
@@ -75,22 +85,33 @@ pub(crate) fn snapshot_options(
 pub(crate) fn changes_options(
     alloc: Global,
     given: &ArgMatches,
-) -> Result<ClosedOptions, OptionsError>
-    requires { HasRequired closed_options (rows_of (found_of given.now)) }
-    ensures ok { IfOk result (IsClosed (first_value (found_of given.now))) }
+) -> Result<ChangesOptions, OptionsError>
+    requires { HasRequired changes_options (rows_of (found_of given.now)) }
+    ensures ok { IfOk result (IsChanges (first_value (found_of given.now))) }
     ensures err { IfErr result (RefusesValues by.Changes (first_value (found_of given.now))) }
 {
-    closed_options(alloc, given, MountCommand::Changes)
+    let overlay = overlay_options(alloc, given, MountCommand::Changes)?;
+    let is_running = is_given(given, "running");
+    Ok(ChangesOptions {
+        overlay,
+        is_running,
+    })
 }
 
 pub(crate) fn changes_line<'a>(alloc: Global) -> Result<clap::Command<'a>, AllocError>
     ensures shape { IfOk result (λ line. shape_of line ≡ subcommand_shape changes) }
     ensures local { IfOk result (λ line. (fields_of line).has_globals ≡ false) }
 {
-    closed_line(
+    let line = overlay_line(
         alloc,
         "changes",
-        "Prints how what a closed overlay shows differs from the tree that it stands on",
+        "Prints how what an overlay shows differs from the tree that it stands on",
+    )?;
+    with_flag(
+        alloc,
+        line,
+        "running",
+        "The overlay is that of a mount that runs, in which nothing changes meanwhile",
     )
 }
 
@@ -98,7 +119,7 @@ pub(crate) fn snapshot_line<'a>(alloc: Global) -> Result<clap::Command<'a>, Allo
     ensures shape { IfOk result (λ line. shape_of line ≡ subcommand_shape snapshot) }
     ensures local { IfOk result (λ line. (fields_of line).has_globals ≡ false) }
 {
-    let line = closed_line(
+    let line = overlay_line(
         alloc,
         "snapshot",
         "Makes Git objects of what a closed overlay shows, and prints the tree's id",
@@ -111,13 +132,13 @@ pub(crate) fn snapshot_line<'a>(alloc: Global) -> Result<clap::Command<'a>, Allo
     )
 }
 
-/// The line of a command that looks at a closed overlay, with the options of whatever does.
-fn closed_line<'a>(
+/// The line of a command that looks at an overlay, with the options of whatever does.
+fn overlay_line<'a>(
     alloc: Global,
     name: &'a str,
     about: &'a str,
 ) -> Result<clap::Command<'a>, AllocError>
-    ensures shape { IfOk result (λ line. shape_of line ≡ subcommand_shape (name.entry.now, closed_options)) }
+    ensures shape { IfOk result (λ line. shape_of line ≡ subcommand_shape (name.entry.now, overlay_options)) }
     ensures local { IfOk result (λ line. (fields_of line).has_globals ≡ false) }
 {
     let line = clap::Command::new(alloc, name).about(about);
