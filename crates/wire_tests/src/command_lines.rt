@@ -2,8 +2,8 @@
 use eden_mount::Config;
 use eden_sockets::Address;
 use mountd_options::{
-    Command, HistoryOption, MountOptions, Objects, ObjectsOptions, OptionsError, RepairOptions,
-    ServeOptions, Served, options,
+    ChangesOptions, Command, HistoryOption, MountOptions, Objects, ObjectsOptions, OptionsError,
+    RepairOptions, ServeOptions, Served, options,
 };
 use std::alloc::Global;
 use std::process::Abort;
@@ -77,6 +77,29 @@ const SERVED_FULL: &[&str] = &[
 
 const REPAIRING: &[&str] = &["mountd", "repair", "--overlay=changes", "--root", ROOT];
 
+/// A line of `changes` over a closed overlay.
+const LOOKING: &[&str] = &[
+    "mountd",
+    "changes",
+    "--overlay=changes",
+    "--root",
+    ROOT,
+    "--objects",
+    FOLDER,
+];
+
+/// A line of `changes` over the overlay of a mount that runs.
+const LOOKING_MEANWHILE: &[&str] = &[
+    "mountd",
+    "changes",
+    "--running",
+    "--overlay=changes",
+    "--root",
+    ROOT,
+    "--objects",
+    FOLDER,
+];
+
 /// What the words ask `stdio` for.
 fn asked(rt: &impl Abort, alloc: Global, words: &[&str]) -> MountOptions {
     match options(alloc, words) {
@@ -89,6 +112,14 @@ fn asked(rt: &impl Abort, alloc: Global, words: &[&str]) -> MountOptions {
 fn repaired(rt: &impl Abort, alloc: Global, words: &[&str]) -> RepairOptions {
     match options(alloc, words) {
         Ok(Command::Repair(given)) => given,
+        _ => rt.abort(),
+    }
+}
+
+/// What the words ask `changes` for.
+fn looked(rt: &impl Abort, alloc: Global, words: &[&str]) -> ChangesOptions {
+    match options(alloc, words) {
+        Ok(Command::Changes(given)) => given,
         _ => rt.abort(),
     }
 }
@@ -268,6 +299,31 @@ fn takes_a_line_that_repairs(rt: HostRuntime) {
     assert!(rt; given.overlay.as_str() == "changes");
 }
 
+fn is_looked_at(given: &ChangesOptions, is_running: bool) -> bool {
+    given.overlay.root.bytes == ROOT_BYTES
+        && is_origin(&given.overlay.objects, Origin::Folder)
+        && given.overlay.folder.as_str() == "changes"
+        && given.is_running == is_running
+}
+
+/// The words ask `changes` for that overlay, over which a mount runs or none does.
+fn check_looked(rt: &impl Abort, alloc: Global, words: &[&str], is_running: bool) {
+    let given = looked(rt, alloc, words);
+    let is_it = is_looked_at(&given, is_running);
+    drop(given);
+    assert!(rt; is_it);
+}
+
+#[test]
+fn takes_a_line_that_tells_changes(rt: HostRuntime) {
+    check_looked(&rt, rt.alloc(), LOOKING, false);
+}
+
+#[test]
+fn takes_a_line_that_tells_the_changes_of_a_mount(rt: HostRuntime) {
+    check_looked(&rt, rt.alloc(), LOOKING_MEANWHILE, true);
+}
+
 fn text_of(rt: &impl Abort, alloc: Global, error: OptionsError) -> String {
     format!(in alloc; "{error}").expect(rt, "memory")
 }
@@ -362,6 +418,34 @@ const NO_LINES: &[Refused] = &[
     (
         &["mountd", "repair", "--root", "0", "--overlay", "changes"],
         "mountd: --root takes 40 lower-case hexadecimal digits",
+    ),
+    (
+        &[
+            "mountd",
+            "changes",
+            "--root",
+            ROOT,
+            "--overlay",
+            "changes",
+            "--running=no",
+        ],
+        "error: unexpected value 'no' for '--running' found; no more were expected",
+    ),
+    (
+        &[
+            "mountd",
+            "changes",
+            "--running",
+            "--root",
+            ROOT,
+            "--overlay",
+            "changes",
+        ],
+        "mountd: changes takes one of --objects and --remote",
+    ),
+    (
+        &["mountd", "snapshot", "--running"],
+        "error: unexpected argument '--running' found",
     ),
     (
         &["mountd", "mount"],
