@@ -303,9 +303,9 @@ def check_status(folder: pathlib.Path, large: Large) -> None:
     with MountGit(large.repository, "HEAD", folder / "mounted", "--log", "--overlay", folder / "overlay") as mount:
         (mount.folder / DEEP).write_bytes(b"changed\n")
         (mount.folder / os.fsdecode(large.folder) / "new").write_bytes(b"new\n")
-        for name in ("the first", "the second"):
+        for name, at in [("the first", folder), ("one in the folder", mount.folder)]:
             before = Counter(asked_for(mount.log))
-            done = subprocess.run(words, capture_output=True, env=environment())
+            done = subprocess.run(words, capture_output=True, env=environment(), cwd=at)
             told = f" M {DEEP}\n?? {os.fsdecode(large.folder)}/new\n".encode()
             check(f"status: {name}", (done.returncode, done.stdout, done.stderr), (0, told, b""))
             check(f"status: what {name} costs", Counter(asked_for(mount.log)) - before, Counter(trees))

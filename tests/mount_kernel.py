@@ -12,9 +12,11 @@ import sqlite3
 import struct
 import subprocess
 import sys
+import threading
 import time
 import traceback
 from collections.abc import Callable, Iterator
+from concurrent.futures import ThreadPoolExecutor
 from typing import Any
 
 from checks import PATIENCE, check, finished, git
@@ -224,7 +226,7 @@ def check_killed_mountd(folder: pathlib.Path, repository: pathlib.Path) -> None:
 
 
 def check_lost_mountd(folder: pathlib.Path, repository: pathlib.Path) -> None:
-    """Where no mountd can be started again after `changes`, who asks is told, and the mount ends with a line and status
+    """Where no mountd can be started again after a commit, who asks is told, and the mount ends with a line and status
     1; the next mount has all that was answered."""
     overlay, program, is_lost = folder / "overlay", folder / "some mountd", folder / "is lost"
     program.write_text(f'#!/bin/sh\nif test "$1" = fuse -a -e "{is_lost}"\n'
@@ -234,7 +236,7 @@ def check_lost_mountd(folder: pathlib.Path, repository: pathlib.Path) -> None:
     with MountGit(repository, "HEAD", folder / "mounted", "--overlay", overlay, "--mountd", program) as mount:
         (mount.folder / "made").write_text("kept")
         is_lost.touch()
-        check("mountd lost: who asks", said_by(MOUNT_GIT, "changes", mount.folder), (1, wanted))
+        check("mountd lost: who asks", said_by(MOUNT_GIT, "commit", mount.folder, "-m", "m"), (1, wanted))
         check("mountd lost: the end", (mount.status(), mount.said()), (1, wanted))
         check("mountd lost: nothing is mounted", mount.is_mounted(), False)
     with MountGit(repository, "HEAD", folder / "mounted", "--overlay", overlay) as mount:
@@ -378,26 +380,28 @@ def check_stores(folder: pathlib.Path, repository: pathlib.Path) -> None:
 
 
 def check_commits(folder: pathlib.Path, repository: pathlib.Path) -> None:
-    """`mount-git changes` and `commit` of a folder that nobody uses; while somebody does they are refused."""
+    """`mount-git changes` of a folder, and `commit` of one that nobody uses; while somebody does it is refused."""
     with MountGit(repository, "HEAD", folder / "mounted", "--overlay", folder / "overlay") as mount:
         (mount.folder / "made").write_text("made")
         (mount.folder / "run.sh").unlink()
         number = (mount.folder / "made").stat().st_ino
         branch = git(repository, "symbolic-ref", "HEAD")
         before = git(repository, "rev-parse", branch)
-        with open(mount.folder / "made", "r+b", buffering=0) as file:
-            for words in (["changes", mount.folder], ["commit", mount.folder, "-m", "one"]):
-                status, lines = said_by(MOUNT_GIT, *words)
-                told = status, [f"{mount.folder} is in use" in line for line in lines]
-                check(f"{words[0]} in use", told, (1, [True]))
+        with open(mount.folder / "made", "r+b", buffering=0) as file, open(mount.folder / "plain.txt", "rb"):
+            # What is removed while it is open stands at a name that nobody sees.
+            (mount.folder / "plain.txt").unlink()
+            told = ["A\tmade", "D\tplain.txt", "D\trun.sh"]
+            check("changes in use", said_by(MOUNT_GIT, "changes", mount.folder), (0, told))
+            status, lines = said_by(MOUNT_GIT, "commit", mount.folder, "-m", "one")
+            check("commit in use", (status, [f"{mount.folder} is in use" in line for line in lines]), (1, [True]))
             check("commit in use: the file goes on", (file.write(b"MADE"), os.pread(file.fileno(), 9, 0)), (4, b"MADE"))
         check("commit in use: nothing is moved", git(repository, "rev-parse", branch), before)
-        check("changes", said_by(MOUNT_GIT, "changes", mount.folder), (0, ["A\tmade", "D\trun.sh"]))
+        check("changes", said_by(MOUNT_GIT, "changes", mount.folder), (0, told))
         status, lines = said_by(MOUNT_GIT, "commit", mount.folder, "-m", "one")
         made = git(repository, "rev-parse", branch)
         check("commit", (status, lines), (0, [f"{made} {branch}"]))
         check("commit: on the one before", git(repository, "rev-parse", f"{made}^"), before)
-        check("commit: what it has", git(repository, "diff", "--name-status", before, made), "A\tmade\nD\trun.sh")
+        check("commit: what it has", git(repository, "diff", "--name-status", before, made), "\n".join(told))
         check("commit: the number stays", (mount.folder / "made").stat().st_ino, number)
         (mount.folder / "made").write_text("again")
         check("commit: the second", said_by(MOUNT_GIT, "commit", mount.folder, "-m", "two")[0], 0)
@@ -408,16 +412,60 @@ def check_commits(folder: pathlib.Path, repository: pathlib.Path) -> None:
 
 
 def check_status_in_use(folder: pathlib.Path, repository: pathlib.Path) -> None:
-    """`mount-git status` of a folder in use says what is so: Git is refused the mount's word, and looks itself."""
+    """`mount-git status`, and Git itself by its environment, of a folder that is in use: by who asks, who stands in it,
+    and by who writes a file in it, whose bytes wait."""
     with MountGit(repository, "HEAD", folder / "mounted", "--overlay", folder / "overlay") as mount:
         (mount.folder / "made").write_text("made")
         (mount.folder / "run.sh").unlink()
         (mount.folder / "plain.txt").write_text("changed")
-        words: list[str | pathlib.Path] = [MOUNT_GIT, "status", mount.folder, "--porcelain"]
         wanted = b" M plain.txt\n D run.sh\n?? made\n"
-        for name, at in [("in use", mount.folder), ("out of use", folder)]:
-            done = subprocess.run(words, capture_output=True, timeout=PATIENCE, cwd=at)
-            check(f"status {name}", (done.returncode, done.stdout), (0, wanted))
-            told = f"{mount.folder} is in use".encode() in done.stderr
-            check(f"status {name}: a refusal is told", (told, done.stderr == b""), (at != folder, at == folder))
+        by_git = 'eval "$("$0" status --environment "$1")" && git status --porcelain'
+        ways: list[list[str | pathlib.Path]] = [[MOUNT_GIT, "status", mount.folder, "--porcelain"],
+                                                ["sh", "-c", by_git, MOUNT_GIT, mount.folder]]
+        with open(mount.folder / "made", "r+b", buffering=0) as file:
+            file.write(b"MADE")
+            for at, words in itertools.product([mount.folder, folder], ways):
+                done = subprocess.run(words, capture_output=True, timeout=PATIENCE, cwd=at)
+                check(f"status by {words[0]} in {at.name}", (done.returncode, done.stdout, done.stderr),
+                      (0, wanted, b""))
         check("status: the end, with nothing said", (mount.end("SIGTERM"), mount.said()), (0, []))
+
+
+CHANGES_UNDER_WAY = 40
+
+
+def told_places(folder: pathlib.Path) -> set[str]:
+    """The names in the folder that `mount-git changes` tells to be new."""
+    status, lines = said_by(MOUNT_GIT, "changes", folder)
+    check("changes under way: the status", status, 0)
+    return {line.removeprefix("A\t") for line in lines if line.startswith("A\t")}
+
+
+def check_changes_under_way(folder: pathlib.Path, repository: pathlib.Path) -> None:
+    """While a file is moved to and fro, each `changes` tells it at one of its places, and never at both or neither; and
+    the calls that wait meanwhile succeed."""
+    places = [("here", "file"), ("there", "other")]
+    for threads in (1, 4):
+        with MountGit(repository, "HEAD", folder / "mounted", "--threads", threads) as mount:
+            for name, _ in places:
+                (mount.folder / name).mkdir()
+            first, second = (mount.folder / name / inner for name, inner in places)
+            first.write_bytes(b"moved")
+            ended = threading.Event()
+
+            def move() -> int:
+                moves = 0
+                while not ended.is_set():
+                    first.rename(second)
+                    second.rename(first)
+                    moves += 1
+                return moves
+
+            with ThreadPoolExecutor(1) as pool:
+                moving = pool.submit(move)
+                told = [told_places(mount.folder) for _ in range(CHANGES_UNDER_WAY)]
+                ended.set()
+                check(f"changes under way, {threads}: it was moved", moving.result() > CHANGES_UNDER_WAY, True)
+            wanted = [{"here/", "there/", "/".join(place)} for place in places]
+            check(f"changes under way, {threads}: at one place", [row for row in told if row not in wanted], [])
+            check(f"changes under way, {threads}: the end", (mount.end("SIGTERM"), mount.said()), (0, []))

@@ -11,13 +11,13 @@ from collections.abc import Callable
 from concurrent.futures import ThreadPoolExecutor
 
 from checks import PATIENCE, check, git, make_repository
-from helpers.running import stand_still
 from mount_differences import tried
 from mount_folder import MountGit
 from mount_kernel import run_files
 from programs import GIT_OBJECTS, MOUNTD, listening
 
 from yakembi import kernel
+from yakembi.standing import stop
 
 THREADS = 4
 
@@ -62,7 +62,7 @@ def check_slow_object(folder: pathlib.Path) -> None:
         names = sorted(os.listdir(shown.top))
         check("threads: before", (len(os.listdir(shown.top / "many")), (shown.top / "plain.txt").read_bytes()),
               (30, b"plain\n"))
-        stand_still(shown.server)
+        stop(shown.server)
         goes_on = threading.Timer(PATIENCE, shown.server.send_signal, [signal.SIGCONT])
         goes_on.start()
         seen: list[object] = []

@@ -12,7 +12,7 @@ from collections.abc import Callable, Iterable, Iterator, Sequence
 from checks import PATIENCE, check, git, make_repository, status_of
 from clones import FOLDER, MOST_QUESTIONS, Clone, blobs_in, make_far_repository, trees_on_the_way
 from folder_operations import Folder, compare, shown
-from helpers.running import Process, most_memory, stand_still
+from helpers.running import Process, most_memory
 from message_folder import ATIME, ATIME_NOW, MTIME, MTIME_NOW, Found, MessageFolder
 from message_model import ROOT, UNTOLD, spelled
 from mount_differences import tried
@@ -21,6 +21,7 @@ from mount_messages import Ended, Kernel
 from overlays import CLOSED
 from programs import GIT_OBJECTS, MOUNTD, SAMPLE_OBJECTS, SAMPLE_ROOT, listening
 from yakembi.kernel import CACHE_ENTRIES
+from yakembi.standing import stop
 from yakembi.tree_model import Path
 
 USERS = 8
@@ -163,7 +164,7 @@ class Behind:
         self.server = server
 
     def __enter__(self) -> None:
-        stand_still(self.server)
+        stop(self.server)
 
     def __exit__(self, *_: object) -> None:
         self.server.send_signal(signal.SIGCONT)

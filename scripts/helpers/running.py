@@ -4,7 +4,6 @@ import contextlib
 import os
 import pathlib
 import re
-import signal
 import subprocess
 import threading
 from collections.abc import Iterator, Sequence
@@ -79,12 +78,6 @@ def kill_hung(process: Process) -> None:
     global hung
     hung += 1
     process.kill()
-
-
-def stand_still(process: Process) -> None:
-    """Stops a child until SIGCONT, and waits until all its threads stand: at first the others of them run on."""
-    process.send_signal(signal.SIGSTOP)
-    os.waitid(os.P_PID, process.pid, os.WSTOPPED | os.WEXITED | os.WNOWAIT)
 
 
 def status_of(process: Process) -> Status:

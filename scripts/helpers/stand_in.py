@@ -13,10 +13,11 @@ from yakembi.git import Repository
 from yakembi.kernel import Result, Unclosed
 from yakembi.mount_git import Asked, tree_to_show
 from yakembi.overlay import OverlayFolder
+from yakembi.standing import standing_still
 
 
-class Closable(client.Requests):
-    """The requests of a session with a `mountd stdio`, which ends for as long as somebody works on its overlay."""
+class Requests(client.Requests):
+    """The requests of a session with a `mountd stdio`, which ends, or stands still, while its overlay is worked on."""
 
     def __init__(self, words: Sequence[object]) -> None:
         self.words = [str(word) for word in words]
@@ -35,6 +36,11 @@ class Closable(client.Requests):
             finally:
                 self.session = client.start(self.words)
 
+    def while_still(self, work: Callable[[], Result]) -> Result:
+        assert self.session.child is not None
+        with self.turn, standing_still(self.session.child):
+            return work()
+
     def close(self) -> None:
         status = self.session.close()
         if status != 0:
@@ -52,7 +58,7 @@ class StandIn:
         self.folder.mkdir(exist_ok=True)
         self.overlay = OverlayFolder(place / "overlay")
         self.tree = tree_to_show(found, revision, self.overlay).tree
-        self.requests = Closable([MOUNTD, "stdio", "--root", self.tree, *source, "--overlay", self.overlay.path,
+        self.requests = Requests([MOUNTD, "stdio", "--root", self.tree, *source, "--overlay", self.overlay.path,
                                   "--history", "none"])
         self.asked = Asked(self.requests, MOUNTD, source, found, revision, self.overlay)
 

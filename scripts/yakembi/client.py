@@ -262,10 +262,13 @@ class Record:
 class Session(Requests):
     """One session, for one user at a time."""
 
-    def __init__(self, reader: BinaryIO, writer: BinaryIO, end: Callable[[], int | None]) -> None:
+    def __init__(self, reader: BinaryIO, writer: BinaryIO, end: Callable[[], int | None],
+                 child: subprocess.Popen[bytes] | None = None) -> None:
         self.reader = reader
         self.writer = writer
         self.end = end
+        # What answers, if it is one of ours.
+        self.child = child
         self.usable = True
         self.kept: Record | None = None
 
@@ -334,4 +337,4 @@ def start(words: Sequence[str], **more: Any) -> Session:
     """A session with a child, as `mountd stdio`; `more` goes to `subprocess.Popen`. `close` waits for its end."""
     child = subprocess.Popen(words, stdin=subprocess.PIPE, stdout=subprocess.PIPE, **more)
     assert child.stdout is not None and child.stdin is not None
-    return Session(cast(BinaryIO, child.stdout), cast(BinaryIO, child.stdin), child.wait)
+    return Session(cast(BinaryIO, child.stdout), cast(BinaryIO, child.stdin), child.wait, child)

@@ -3,7 +3,8 @@
 That is the tree that the mount was opened with, also after a commit of what the folder shows. A line a path: A, D, M or
 T as `git diff --name-status` has them, and the path from the top of the folder, quoted as Git quotes it. A directory
 ends in a slash. One that was moved, added or removed as a whole has one line: what is below is as it was, or isn't
-there, and nothing of it is fetched. That other run unmounts the folder for a moment, as `mount-git commit` has it do.
+there, and nothing of it is fetched. The folder may be in use: who comes meanwhile waits, and what was written to a file
+that isn't closed yet isn't told.
 """
 
 import argparse
@@ -17,6 +18,8 @@ from yakembi.control import Connection
 
 # How each byte stands in a quoted path (Git's `quote_c_style`).
 ESCAPES = {7: "\\a", 8: "\\b", 9: "\\t", 10: "\\n", 11: "\\v", 12: "\\f", 13: "\\r", 34: '\\"', 92: "\\\\"}
+# So a name at the top begins by which mountd keeps what was removed while it is open.
+HIDDEN = b"\xff" * 4
 QUOTED = {byte: ESCAPES.get(byte, chr(byte) if 32 <= byte < 127 else f"\\{byte:03o}") for byte in range(256)}
 
 
@@ -31,10 +34,12 @@ class Change(NamedTuple):
 
 
 def changes_in(lines: Iterator[bytes]) -> Iterator[Change]:
-    """The changes of the lines that `mountd changes` prints."""
+    """The changes of the lines that `mountd changes` prints, but what nobody sees."""
     for line in lines:
         letter, kind, path, *whole = line.decode().split()
-        yield Change(letter, kind, unquote_to_bytes(path)[1:], bool(whole))
+        name = unquote_to_bytes(path)[1:]
+        if letter != "A" or not name.startswith(HIDDEN):
+            yield Change(letter, kind, name, bool(whole))
 
 
 def quoted(path: bytes) -> str:

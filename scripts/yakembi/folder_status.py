@@ -1,10 +1,9 @@
 """Shows `git status` of a folder that another run of `mount-git` has mounted, which looks at what was changed alone.
 
 Git reads an index of the commit that the folder stands on, which lies in the overlay, and asks `mount-git fsmonitor`,
-in the protocol of its hook, what was changed. Git stands in the folder then, and a folder in use doesn't tell that; so
-it is asked before Git starts. The repository's own index and settings stay as they are. With --environment nothing is
-run, and lines for a shell are printed that let other programs use Git so: eval "$(mount-git status --environment
-FOLDER)". That is for looking; what is committed by `mount-git commit` is known to the mount.
+in the protocol of its hook, what was changed. The repository's own index and settings stay as they are. With
+--environment nothing is run, and lines for a shell are printed that let other programs use Git so: eval "$(mount-git
+status --environment FOLDER)". That is for looking; what is committed by `mount-git commit` is known to the mount.
 """
 
 import argparse
@@ -22,8 +21,6 @@ from yakembi.git import Refusal
 from yakembi.git_folder import PROTOCOL, GitFolder, folder_for_git
 
 TOKEN = b"mount-git"
-# In the environment of Git and its hook: the file with what the folder told before Git started.
-TOLD = "MOUNT_GIT_CHANGES"
 # The name of anything in a directory, which makes Git look through that directory.
 ANYTHING = b"/-"
 
@@ -36,10 +33,7 @@ def status(words: argparse.Namespace) -> None:
             for name, value in variables.items():
                 print(f"export {name}={shlex.quote(value)}")
             return
-        # Where it is refused, so it is to the hook, which says so.
-        with contextlib.suppress(Refusal):
-            variables[TOLD] = mount.ask("changes")["lines"]
-        sys.exit(subprocess.run(["git", "status", *words.words], env={**of_no_repository(), **variables}).returncode)
+    sys.exit(subprocess.run(["git", "status", *words.words], env={**of_no_repository(), **variables}).returncode)
 
 
 def of_no_repository() -> dict[str, str]:
@@ -52,17 +46,13 @@ def fsmonitor(words: argparse.Namespace) -> None:
     """Answers Git's hook `core.fsmonitor` for an index that `mount-git status` made, which names this command to Git.
 
     It prints the paths at which Git has to look: what was changed since the commit, and what was told to have been.
-    `mount-git status` has asked for the first; else the folder is asked, which tells nothing while somebody stands in
-    it, as Git itself does. Where it fails Git looks at every file.
+    Where it fails Git looks at every file.
     """
     if words.version != PROTOCOL:
         raise Refusal(f"the hook's protocol is version {PROTOCOL}, and not {words.version}")
     folder = GitFolder(words.place)
-    with contextlib.ExitStack() as stack:
-        told = os.environ.get(TOLD)
-        if told is None:
-            told = stack.enter_context(contextlib.closing(Connection(folder.top()))).ask("changes")["lines"]
-        paths = to_look_at(changes_in(stack.enter_context(open(told, "rb"))), folder.tracked)
+    with contextlib.closing(Connection(folder.top())) as mount, open(mount.ask("changes")["lines"], "rb") as told:
+        paths = to_look_at(changes_in(told), folder.tracked)
     sys.stdout.buffer.write(b"".join(field + b"\0" for field in (TOKEN, *sorted(folder.tell(paths)))))
     sys.stdout.flush()
 

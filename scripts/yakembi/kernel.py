@@ -22,6 +22,7 @@ from collections.abc import Callable, Iterator, Mapping, Sequence
 from typing import TypeVar
 
 from yakembi.git import Refusal
+from yakembi.standing import standing_still
 
 CACHE_ENTRIES = 65_536
 # The kind of a mount of ours, as the kernel tells it with all others; and where it has a folder for each connection.
@@ -138,13 +139,14 @@ class Shown:
     """One `mountd fuse` that shows a folder."""
 
     def __init__(self, words: Sequence[str], folder: str, descriptor: int | None = None) -> None:
-        """In a session of its own, so that a terminal's Ctrl-C doesn't reach it. `Unopened`, if it opens nothing. The
-        descriptor is that of a folder that was mounted already."""
+        """In a process group of its own, so that a terminal's Ctrl-C doesn't reach it, and in our session, as
+        `standing_still` wants it. `Unopened`, if it opens nothing. The descriptor is that of a folder that was mounted
+        already."""
         self.folder = folder
         descriptor = mount(folder) if descriptor is None else descriptor
         try:
             self.child = subprocess.Popen(words, stdin=descriptor, stdout=descriptor, stderr=subprocess.PIPE,
-                                          env=with_huge_pages(os.environ), start_new_session=True)
+                                          env=with_huge_pages(os.environ), process_group=0)
         except OSError:
             unmount(folder)
             raise
@@ -250,6 +252,14 @@ class Showing:
             finally:
                 with self.or_lost():
                     self.open(descriptor)
+
+    def while_still(self, work: Callable[[], Result]) -> Result:
+        """What the work gives, over an overlay that isn't changed meanwhile, whoever uses the folder: whose message
+        comes then waits. A `Refusal`, if mountd is at work all the time, or has ended."""
+        with self.turn:
+            assert self.shown is not None
+            with standing_still(self.shown.child):
+                return work()
 
     def leave(self) -> None:
         """Unmounts the folder, unless it is in use."""

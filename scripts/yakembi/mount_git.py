@@ -180,16 +180,18 @@ def is_text(path: str) -> bool:
     return True
 
 
-class Closable(Protocol):
-    """A mount whose overlay is closed for a moment."""
+class Served(Protocol):
+    """A mount that makes room for somebody's work: its overlay is closed for a moment, or it only stands still."""
 
     def while_closed(self, work: Callable[[], Result]) -> Result: ...
+
+    def while_still(self, work: Callable[[], Result]) -> Result: ...
 
 
 class Asked:
     """What other runs of `mount-git` ask of this one."""
 
-    def __init__(self, below: Closable, mountd: str | os.PathLike[str], source: Sequence[str],
+    def __init__(self, below: Served, mountd: str | os.PathLike[str], source: Sequence[str],
                  repository: Repository, revision: str, overlay: OverlayFolder) -> None:
         self.below = below
         self.mountd = os.fspath(mountd)
@@ -215,25 +217,24 @@ class Asked:
                 "commit": noted.commit, "branch": self.branch}
 
     def changes(self, fields: Fields, folder: pathlib.Path) -> Fields:
-        """A file with the lines of what was changed."""
+        """A file with the lines of what was changed. The folder may be in use."""
         told = folder / "changes"
         with open(told, "wb") as lines:
-            self.closed(lines, "changes")
+            self.below.while_still(lambda: self.run(lines, "changes", "--running"))
         return {"lines": str(told)}
 
     def snapshot(self, fields: Fields, folder: pathlib.Path) -> Fields:
         """The tree that is shown, the folder with its own objects, and what is left out of it."""
         into = folder / "objects"
-        done = self.closed(subprocess.PIPE, "snapshot", "--into", str(into))
+        with ends_told(self.overlay):
+            done = self.below.while_closed(lambda: self.run(subprocess.PIPE, "snapshot", "--into", str(into)))
         left_out = [line.removeprefix("mountd: ") for line in done.stderr.decode(errors="replace").splitlines()]
         return {"tree": done.stdout.decode().strip(), "folder": str(into), "left_out": left_out}
 
-    def closed(self, output: int | BinaryIO, command: str, *more: str) -> subprocess.CompletedProcess[bytes]:
-        """A run of `mountd` over the closed overlay, whose output goes there."""
+    def run(self, output: int | BinaryIO, command: str, *more: str) -> subprocess.CompletedProcess[bytes]:
+        """A run of `mountd` over the overlay, whose output goes there."""
         words = [self.mountd, command, "--root", self.noted().tree, *self.source, "--overlay", self.overlay.path, *more]
-        with ends_told(self.overlay):
-            done = self.below.while_closed(lambda: subprocess.run(words, stdin=subprocess.DEVNULL, stdout=output,
-                                                                 stderr=subprocess.PIPE))
+        done = subprocess.run(words, stdin=subprocess.DEVNULL, stdout=output, stderr=subprocess.PIPE)
         if done.returncode != 0:
             raise Refusal(f"mountd ended with status {done.returncode}{said(done.stderr)}")
         return done

@@ -9,7 +9,20 @@ use eden_snapshot::{Change, ChangeSink, How, SinkFault};
 use std::alloc::Global;
 use std::io::{self, BufWriter, Write};
 
-/// A line for each change, of which some are held back until they fill a buffer: `flush` writes those out.
+/// What holds back some of what it is told.
+pub trait HoldsBack {
+    ghost use Rattle.std.specs.Prelude.{Result, ⊤};
+    ghost use Rattle.std.specs.declared.io.Error.{Error};
+
+    /// It was as the first says, and wrote out so what it held back, which left it as the last says.
+    ghost writes_out: { Self → Result ⊤ Error → Self → Type 0 };
+
+    /// Writes that out.
+    fn write_out(&mut self) -> io::Result<()>
+        ensures { writes_out self.old result self.new };
+}
+
+/// A line for each change, of which some are held back until they fill a buffer.
 #[derive(Drop)]
 pub struct LineSink<W: Write + Drop> {
     writer: BufWriter<W>,
@@ -25,9 +38,14 @@ impl<W: Write + Drop> LineSink<W> {
             failures: 0,
         })
     }
+}
 
-    /// Writes out what is held back.
-    pub fn flush(&mut self) -> io::Result<()> {
+impl<W: Write + Drop> HoldsBack for LineSink<W> {
+    ghost use Rattle.std.specs.Prelude.{◌≡◌};
+
+    ghost writes_out = { λ old _ new. new.failures ≡ old.failures };
+
+    fn write_out(&mut self) -> io::Result<()> {
         self.writer.flush()
     }
 }

@@ -3,6 +3,7 @@ use crate::hold::HoldFault;
 use eden_model::Outside;
 use eden_overlay::FolderFiles;
 use eden_overlay_journal::{FolderJournal, Journaled, taken_in};
+use std::fs;
 use std::path::PathBuf;
 
 /// Files in a folder, with a journal over them.
@@ -16,4 +17,14 @@ pub fn overlay_files(rt: &HostRuntime, folder: PathBuf) -> Result<OverlayFiles, 
     let journal = FolderJournal::open(*rt, alloc, &folder)?;
     let files = FolderFiles::new(*rt, folder);
     Ok(taken_in::<Outside, _, _>(alloc, files, journal)?)
+}
+
+/// The files of a folder over which a mount runs, with what its journal says by now. None of them is changed.
+///
+/// `Device`, also where there is no such folder, and `Memory`, where those failed.
+pub fn running_files(rt: &HostRuntime, folder: String) -> Result<OverlayFiles, HoldFault> {
+    let folder = PathBuf::from(folder);
+    fs::metadata(rt, folder.as_path())?;
+    let journal = FolderJournal::open(*rt, rt.alloc(), &folder)?;
+    Ok(Journaled::new(FolderFiles::new(*rt, folder), journal))
 }

@@ -1,0 +1,68 @@
+"""mountd stands still between two messages, so that its overlay's files show what was answered, and nothing half done.
+
+It is stopped and looked at. If each of its threads waits for the next message, or for another thread, it stays so for a
+while; else it goes on, and is tried again. Should this program be killed meanwhile, the kernel wakes mountd: a process
+group that is stopped, and that nobody of its session has started any more, is sent SIGHUP and SIGCONT.
+"""
+
+import contextlib
+import os
+import pathlib
+import signal
+import subprocess
+import time
+from collections.abc import Iterator
+
+from yakembi.git import Refusal
+
+# How long it may be at work each time that it is looked at, as while it waits for an object, and how long it goes on
+# between two looks, at first and at most.
+SECONDS_BUSY = 60.0
+SECONDS_BETWEEN, MOST_BETWEEN = 0.002, 0.05
+# As /proc tells the call in which a thread stands (x86-64): read(2), by which messages come, and futex(2).
+READ, FUTEX = "0", "202"
+# The descriptor by which messages come.
+MESSAGES = 0
+
+
+def stop(child: subprocess.Popen[bytes]) -> None:
+    """Stops a child until SIGCONT, and waits until all its threads stand: at first the others of them run on."""
+    child.send_signal(signal.SIGSTOP)
+    with contextlib.suppress(ChildProcessError):
+        os.waitid(os.P_PID, child.pid, os.WSTOPPED | os.WEXITED | os.WNOWAIT)
+
+
+def is_waiting(call: str) -> bool:
+    """Whether a thread that stands in that call waits for a message, or for another thread."""
+    number, *words = call.split()
+    return number == FUTEX or (number == READ and int(words[0], 16) == MESSAGES)
+
+
+def is_between_messages(process: int) -> bool:
+    """Whether no thread of a stopped process is at work. A Refusal, where that can't be told."""
+    try:
+        calls = [(task / "syscall").read_text() for task in pathlib.Path(f"/proc/{process}/task").iterdir()]
+    except PermissionError:
+        raise Refusal("this system doesn't tell what mountd is at (kernel.yama.ptrace_scope)") from None
+    except (FileNotFoundError, ProcessLookupError):
+        raise Refusal("mountd has ended") from None
+    return all(map(is_waiting, calls))
+
+
+@contextlib.contextmanager
+def standing_still(child: subprocess.Popen[bytes]) -> Iterator[None]:
+    """The child does nothing in the block, and is at no message. A Refusal, where it is at work all the time, or has
+    ended."""
+    end, pause = time.monotonic() + SECONDS_BUSY, SECONDS_BETWEEN
+    while True:
+        stop(child)
+        try:
+            if is_between_messages(child.pid):
+                yield
+                return
+        finally:
+            child.send_signal(signal.SIGCONT)
+        if time.monotonic() > end:
+            raise Refusal(f"mountd was at work for {SECONDS_BUSY:.0f} s: try it again")
+        time.sleep(pause)
+        pause = min(2 * pause, MOST_BETWEEN)
