@@ -1,10 +1,11 @@
 //! What one program has at a time: the folder that keeps the changes, and the path that it listens at.
-ghost use Rattle.std.specs.Prelude.{◌≡◌, ◌↔◌, IfOk, IsTrue, option_map, string_bytes};
+ghost use Rattle.std.specs.Prelude.{◌≡◌, IfOk, IsErr, IsTrue, option_map, string_bytes};
 ghost use Rattle.std.specs.Option.{is_some};
 ghost use Rattle.std.specs.Path.{path_buf_bytes};
 ghost use Rattle.eden_sockets.specs.Addresses.{is_socket};
 ghost use Rattle.mountd.specs.Endings.{hold_name};
 ghost use Rattle.mountd.specs.Holding.{IsDeviceFault, IsLockFault, of_files};
+ghost use Rattle.mountd.specs.Serving.{opening_of};
 ghost use Rattle.mountd.specs.declared.hold.HoldFault.TheVariants as fault;
 
 use eden_checkout::Opening;
@@ -162,12 +163,14 @@ pub struct HeldPath {
 /// with `.lock` behind, and removes the socket of a program that left one there.
 ///
 /// `Locked`, where another program listens there; `Device` and `Memory`, where those failed, or the lock can't be made.
+/// None of them for a port.
 pub fn hold_address<R: Files<File = File> + Net>(
     rt: &R,
     alloc: Global,
     address: &Address,
 ) -> Result<Option<HeldPath>, HoldFault>
-    ensures { IfOk result (λ held. is_some held ≡ is_socket address.now) }
+    ensures held { IfOk result (λ held. is_some held ≡ is_socket address.now) }
+    ensures port { IsErr result → IsTrue (is_socket address.now) }
 {
     let Address::Socket(path) = address else {
         return Ok(None);
@@ -194,7 +197,7 @@ pub fn let_go<R: Files + Net>(rt: &R, held: Option<HeldPath>) {
 
 /// How what a folder keeps is opened.
 pub fn opening(rescan: bool) -> Opening
-    ensures { (result ≡ Opening.Rescan) ↔ IsTrue rescan }
+    ensures { result ≡ opening_of rescan }
 {
     if rescan {
         Opening::Rescan

@@ -1,11 +1,12 @@
 //! Many callers of a mount, each over a connection.
-ghost use Rattle.std.specs.Prelude.{◌≡◌, ◌≤◌, IfOk, IsErr, IsOk, [], length};
+ghost use Rattle.std.specs.Prelude.{◌≡◌, ◌≤◌, ◌⊎◌, IfOk, IsErr, IsOk, [], length};
 ghost use Rattle.std.specs.Process.{exit_status};
 ghost use Rattle.eden_checkout.specs.Opening.{MayOpen};
 ghost use Rattle.mountd.specs.Runs.{IsSharedRun, limit_of};
+ghost use Rattle.mountd.specs.Serving.{IsAnyRun, IsAskedRun, IsServeRun, ServesAt};
 
 use crate::hold::{hold_address, hold_overlay, let_go, opening};
-use crate::overlay_files::overlay_files;
+use crate::overlay_files::{OverlayFiles, overlay_files};
 use crate::report;
 use crate::report::repository_name;
 use crate::sources::{folder_sources, git_sources, shared_sources, socket_sources};
@@ -16,24 +17,34 @@ use eden_model::{Outside, World};
 use eden_mount::{Config, Unloading};
 use eden_overlay::{Files, MemoryFiles};
 use eden_serve_life::live_shared;
-use eden_sockets::Listener;
+use eden_sockets::{Listener, Stream};
 use eden_source::Source;
 use eden_stdio_life::{Backing, Base};
 use mountd_options::{HistoryOption, MountOptions, Objects, ServeOptions};
 use std::io::{Read, Write};
 use std::marker::{Send, Sync};
+use std::net::TcpStream;
+use std::path::PathBuf;
 use std::process::ExitCode;
 use std::sync::Wait;
 use std::thread::Threads;
 
+// What a caller is connected by.
+type Connection = Stream<TcpStream>;
+
+// Files that go with the program.
+type Unkept = MemoryFiles<Outside>;
+
 /// Serves a session to each connection to an address, which is told on standard output, until as many as are asked for
-/// have ended. A path is held before anything is opened.
+/// have ended. A path is held before anything is opened; where it can't be, the status is 4.
 pub fn serve<R: Threads + Wait + Sync>(
     threads: &R,
     rt: &HostRuntime,
     options: ServeOptions,
 ) -> ExitCode
     requires fetchers { 1 ≤ options.fetchers }
+    ensures { ServesAt ⟦<Outside as World>⟧ ⟦<Connection as Read>⟧ ⟦<Connection as Write>⟧
+        ⟦<Unkept as Files<Outside>>⟧ ⟦<OverlayFiles as Files<Outside>>⟧ options (exit_status result) }
 {
     match hold_address(rt, rt.alloc(), &options.address) {
         Err(fault) => report::unheard(rt, fault.name()),
@@ -52,22 +63,40 @@ fn serve_held<R: Threads + Wait + Sync>(
     mut options: ServeOptions,
 ) -> ExitCode
     requires fetchers { 1 ≤ options.fetchers }
+    ensures { IsServeRun ⟦<Outside as World>⟧ ⟦<Connection as Read>⟧ ⟦<Connection as Write>⟧
+        ⟦<Unkept as Files<Outside>>⟧ ⟦<OverlayFiles as Files<Outside>>⟧ options.mount (exit_status result) }
 {
-    match hold_overlay(rt, rt.alloc(), options.mount.overlay.take()) {
-        Err(fault) => report::unopened(rt, fault.name()),
-        Ok(None) => serve_files(threads, rt, options, MemoryFiles::new(rt.alloc())),
-        Ok(Some((folder, lock))) => {
-            let status = match overlay_files(rt, folder) {
-                Err(fault) => report::unopened(rt, fault.name()),
-                Ok(files) => serve_files(threads, rt, options, files),
-            };
-            drop(lock);
-            status
-        }
-    }
+    let held = match hold_overlay(rt, rt.alloc(), options.mount.overlay.take()) {
+        Err(fault) => return report::unopened(rt, fault.name()),
+        Ok(held) => held,
+    };
+    let Some((folder, lock)) = held else {
+        return serve_files(threads, rt, options, MemoryFiles::new(rt.alloc()));
+    };
+    let status = serve_folder(threads, rt, options, folder);
+    drop(lock);
+    status
 }
 
-/// Serves sessions over these files, with the objects that are asked for.
+/// Serves sessions over the files of a folder that is held.
+fn serve_folder<R: Threads + Wait + Sync>(
+    threads: &R,
+    rt: &HostRuntime,
+    options: ServeOptions,
+    folder: PathBuf,
+) -> ExitCode
+    requires fetchers { 1 ≤ options.fetchers }
+    ensures { (exit_status result ≡ 3) ⊎ IsAnyRun ⟦<Outside as World>⟧ ⟦<Connection as Read>⟧
+        ⟦<Connection as Write>⟧ ⟦<OverlayFiles as Files<Outside>>⟧ options.mount (exit_status result) }
+{
+    let files = match overlay_files(rt, folder) {
+        Err(fault) => return report::unopened(rt, fault.name()),
+        Ok(files) => files,
+    };
+    serve_files(threads, rt, options, files)
+}
+
+/// Serves sessions over these files, with the objects that are asked for. Status 3, where those can't be had.
 fn serve_files<R: Threads + Wait + Sync, F: Files<Outside> + Send>(
     threads: &R,
     rt: &HostRuntime,
@@ -75,6 +104,8 @@ fn serve_files<R: Threads + Wait + Sync, F: Files<Outside> + Send>(
     files: F,
 ) -> ExitCode
     requires fetchers { 1 ≤ options.fetchers }
+    ensures { (exit_status result ≡ 3) ⊎ IsAskedRun ⟦<Outside as World>⟧ ⟦<Connection as Read>⟧
+        ⟦<Connection as Write>⟧ F.Files options.mount files (exit_status result) }
 {
     let ServeOptions {
         mount,

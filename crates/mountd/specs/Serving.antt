@@ -1,0 +1,51 @@
+-- What a mount is served with that was asked for by options.
+use Rattle.std.specs.Prelude.{◌≡◌, ◌⊎◌, ℕ, Bool, true, false, IsTrue, Option, Some, None}
+use Rattle.std.specs.declared.io.Read.{Ghosts as Read}
+use Rattle.std.specs.declared.io.Write.{Ghosts as Write}
+use Rattle.eden_model.specs.declared.world.World.{Ghosts}
+use Rattle.eden_overlay.specs.declared.files.Files.{Ghosts as Files}
+use Rattle.eden_overlay.specs.Files.{Stored}
+use Rattle.eden_checkout.specs.declared.opening.Opening.{Opening}
+use Rattle.eden_checkout.specs.declared.opening.Opening.TheVariants.{Closed, Rescan}
+use Rattle.eden_stdio_life.specs.declared.opening.Base.{Base}
+use Rattle.eden_sockets.specs.Addresses.{is_socket}
+use Rattle.mountd_options.specs.declared.command.MountOptions.{MountOptions}
+use Rattle.mountd_options.specs.declared.command.ServeOptions.{ServeOptions}
+use Rattle.mountd.specs.Runs.{IsSharedRun, limit_of}
+
+-- how what a folder keeps is opened
+abbrev pub opening_of : Bool → Opening
+opening_of true = Rescan
+opening_of false = Closed
+
+-- the commit's tree, and how what stands on it is opened
+abbrev pub base_of : MountOptions → Base
+base_of options = record { root = options.root; opening = opening_of options.rescan }
+
+-- no file is there yet
+abbrev pub IsNothing : Stored → Type 0
+IsNothing F = (number : ℕ) → F number ≡ None
+
+module _ {W I O : Type 0} (w : Ghosts W) (i : Read I) (o : Write O) where
+  -- a mount over these files was served as the options say, and the status tells how that ended
+  abbrev pub IsAskedRun : {F : Type 0} → Files F W → MountOptions → F → ℕ → Type 0
+  IsAskedRun f options files status =
+      IsSharedRun w f i o (limit_of options.history options.limits) (base_of options) options.limits files status
+
+  -- .. over some such files
+  abbrev pub IsAnyRun : {F : Type 0} → Files F W → MountOptions → ℕ → Type 0
+  IsAnyRun {F} f options status = (files : F) × IsAskedRun f options files status
+
+  module _ {M F : Type 0} (m : Files M W) (f : Files F W) where
+    -- .. over files in memory, of which none is there yet, if no folder is to keep the changes, and else over a folder's
+    abbrev pub IsKeptRun : {T : Type 0} → Option T → MountOptions → ℕ → Type 0
+    IsKeptRun None options status = (files : M) × IsNothing (m.stored files) × IsAskedRun m options files status
+    IsKeptRun (Some folder) options status = IsAnyRun f options status
+
+    -- .. or the folder, or where objects come from, couldn't be opened, and the status is 3
+    abbrev pub IsServeRun : MountOptions → ℕ → Type 0
+    IsServeRun options status = (status ≡ 3) ⊎ IsKeptRun options.overlay options status
+
+    -- .. or the address is a socket's path that couldn't be held, and the status is 4
+    abbrev pub ServesAt : ServeOptions → ℕ → Type 0
+    ServesAt options status = (IsTrue (is_socket options.address) × (status ≡ 4)) ⊎ IsServeRun options.mount status
