@@ -12,6 +12,7 @@ import time
 import zlib
 from collections import Counter
 from collections.abc import Callable, Iterable
+from concurrent.futures import ThreadPoolExecutor
 
 from checks import PATIENCE, check, finished, git, make_repository
 from clones import FILES, FOLDER, MOST_QUESTIONS, Clone, blobs_in, make_far_repository, trees_on_the_way
@@ -328,8 +329,11 @@ def check_partial_clones(folder: pathlib.Path) -> None:
     for objects, most in MOST_QUESTIONS.items():
         clone = Clone(repository, folder / objects, objects)
         clone.behave(ROUND_TRIPS)
-        with MountGit(clone.path, "HEAD", folder / objects / "mounted") as mount:
-            seconds = search(mount)
+        with MountGit(clone.path, "HEAD", folder / objects / "mounted") as mount, ThreadPoolExecutor(1) as pool:
+            searching = pool.submit(search, mount)
+            told = [said_by(MOUNT_GIT, "changes", mount.folder) for _ in range(3)]
+            seconds = searching.result()
+            check(f"{objects}: changes while objects are waited for", told, [(0, [])] * 3)
             print(f"{objects}: a search through {FILES} files took {seconds:.1f} s, near {near:.1f} s")
             check(f"{objects}: the end, with nothing said", (mount.end("SIGTERM"), mount.said()), (0, []))
         check(f"{objects}: {clone.questions()} questions", clone.questions() <= most, True)

@@ -1,8 +1,10 @@
 """mountd stands still between two messages, so that its overlay's files show what was answered, and nothing half done.
 
-It is stopped and looked at. If each of its threads waits for the next message, or for another thread, it stays so for a
-while; else it goes on, and is tried again. Should this program be killed meanwhile, the kernel wakes mountd: a process
-group that is stopped, and that nobody of its session has started any more, is sent SIGHUP and SIGCONT.
+It is stopped and looked at. If each of its threads waits for the next message, for an object that its message needs, or
+for another thread, it stays so for a while; else it goes on, and is tried again. What waits for an object has changed
+nothing for its message yet, but for a rename over an open file, which is two changes. Should this program be killed
+meanwhile, the kernel wakes mountd: a process group that is stopped, and that nobody of its session has started any
+more, is sent SIGHUP and SIGCONT.
 """
 
 import contextlib
@@ -15,12 +17,13 @@ from collections.abc import Iterator
 
 from yakembi.git import Refusal
 
-# How long it may be at work each time that it is looked at, as while it waits for an object, and how long it goes on
-# between two looks, at first and at most.
+# How long it may be at work each time that it is looked at, and how long it goes on between two looks, at first and at
+# most.
 SECONDS_BUSY = 60.0
 SECONDS_BETWEEN, MOST_BETWEEN = 0.002, 0.05
-# As /proc tells the call in which a thread stands (x86-64): read(2), by which messages come, and futex(2).
-READ, FUTEX = "0", "202"
+# As /proc tells the call in which a thread stands (x86-64): read(2), by which messages come, recvfrom(2), by which
+# objects come, and futex(2).
+READ, RECEIVE, FUTEX = "0", "45", "202"
 # The descriptor by which messages come.
 MESSAGES = 0
 
@@ -33,9 +36,9 @@ def stop(child: subprocess.Popen[bytes]) -> None:
 
 
 def is_waiting(call: str) -> bool:
-    """Whether a thread that stands in that call waits for a message, or for another thread."""
+    """Whether a thread that stands in that call waits for a message, for an object, or for another thread."""
     number, *words = call.split()
-    return number == FUTEX or (number == READ and int(words[0], 16) == MESSAGES)
+    return number in (RECEIVE, FUTEX) or (number == READ and int(words[0], 16) == MESSAGES)
 
 
 def is_between_messages(process: int) -> bool:
