@@ -2,8 +2,8 @@
 use eden_mount::Config;
 use eden_sockets::Address;
 use mountd_options::{
-    ChangesOptions, Command, HistoryOption, MountOptions, Objects, ObjectsOptions, OptionsError,
-    RepairOptions, ServeOptions, Served, options,
+    ChangesOptions, Command, HistoryOption, MountOptions, Objects, OptionsError, RepairOptions,
+    ServeOptions, options,
 };
 use std::alloc::Global;
 use std::process::Abort;
@@ -16,7 +16,7 @@ const ROOT_BYTES: [u8; 20] = [
     0xea, 0x74, 0xf5, 0x79,
 ];
 
-const FOLDER: &str = "objects";
+pub(crate) const FOLDER: &str = "objects";
 
 const GOOD: &[&str] = &["mountd", "stdio", "--root", ROOT, "--objects", FOLDER];
 
@@ -134,12 +134,12 @@ fn served(rt: &impl Abort, alloc: Global, words: &[&str]) -> ServeOptions {
 
 /// Where a server is.
 #[derive(Clone, Copy)]
-enum At {
+pub(crate) enum At {
     Port(u16),
     Socket(&'static str),
 }
 
-fn is_at(address: &Address, want: At) -> bool {
+pub(crate) fn is_at(address: &Address, want: At) -> bool {
     match (address, want) {
         (Address::Port(port), At::Port(want)) => *port == want,
         (Address::Socket(path), At::Socket(want)) => path.as_str() == want,
@@ -345,9 +345,9 @@ fn is_refused(rt: &impl Abort, alloc: Global, words: &[&str], front: &str) -> bo
 }
 
 /// Words that are no line, and how the text begins that refuses them.
-type Refused = (&'static [&'static str], &'static str);
+pub(crate) type Refused = (&'static [&'static str], &'static str);
 
-fn check(rt: &impl Abort, alloc: Global, rows: &[Refused]) {
+pub(crate) fn check(rt: &impl Abort, alloc: Global, rows: &[Refused]) {
     for (at, (words, front)) in rows.iter().enumerate() {
         assert!(rt; is_refused(rt, alloc, words, front), "at {at}");
     }
@@ -763,90 +763,6 @@ fn refuses_what_lies_beside_a_repository(rt: HostRuntime) {
         NO_PLACES_BESIDE_A_REPOSITORY,
     );
     check_behind(&rt, rt.alloc(), SERVED, NO_PLACES_OF_A_SERVER);
-}
-
-/// What the words ask `objects` for.
-fn given_out(rt: &impl Abort, alloc: Global, words: &[&str]) -> ObjectsOptions {
-    match options(alloc, words) {
-        Ok(Command::Objects(given)) => given,
-        _ => rt.abort(),
-    }
-}
-
-/// Whether given-out objects are in the folder, as a repository or not.
-fn is_in(objects: &Served, is_repository: bool) -> bool {
-    match objects {
-        Served::Folder(folder) => !is_repository && folder.as_str() == FOLDER,
-        Served::Repository(folder) => is_repository && folder.as_str() == FOLDER,
-    }
-}
-
-/// The words of `objects` with a repository.
-const OF_A_REPOSITORY: &[&str] = &["mountd", "objects", "--port", "1", "--git", FOLDER];
-
-fn is_given_out(given: &ObjectsOptions, is_repository: bool, at: At) -> bool {
-    is_in(&given.objects, is_repository) && is_at(&given.address, at)
-}
-
-/// The words ask `objects` for that.
-fn check_given_out(rt: &impl Abort, alloc: Global, words: &[&str], is_repository: bool, at: At) {
-    let given = given_out(rt, alloc, words);
-    let is_it = is_given_out(&given, is_repository, at);
-    drop(given);
-    assert!(rt; is_it);
-}
-
-#[test]
-fn takes_a_repository_to_give_out(rt: HostRuntime) {
-    check_given_out(&rt, rt.alloc(), OF_A_REPOSITORY, true, At::Port(1));
-}
-
-/// Lines of `objects` that don't say whose, and the texts that refuse them.
-const NOT_ONE_TO_GIVE_OUT: &[Refused] = &[
-    (
-        &["mountd", "objects", "--port", "1"],
-        "mountd: objects takes one of --dir and --git",
-    ),
-    (
-        &[
-            "mountd", "objects", "--port", "1", "--dir", FOLDER, "--git", FOLDER,
-        ],
-        "mountd: objects takes one of --dir and --git",
-    ),
-    (
-        &["mountd", "objects", "--port", "0", "--sessions", "0"],
-        "mountd: objects takes one of --dir and --git",
-    ),
-    (
-        &["mountd", "objects", "--git", FOLDER],
-        "mountd: objects takes one of --port and --socket",
-    ),
-    (
-        &["mountd", "objects", "--git", FOLDER, "--port", "65536"],
-        "mountd: --port takes a number from 0 to 65535",
-    ),
-];
-
-#[test]
-fn refuses_what_says_not_whose_to_give_out(rt: HostRuntime) {
-    check(&rt, rt.alloc(), NOT_ONE_TO_GIVE_OUT);
-}
-
-/// The words of `objects` at a socket.
-const AT_A_SOCKET: &[&str] = &["mountd", "objects", "--dir", FOLDER, "--socket", "socket"];
-
-/// .. and at a port.
-const AT_A_PORT: &[&str] = &["mountd", "objects", "--dir", FOLDER, "--port", "0"];
-
-#[test]
-fn takes_a_folder_to_give_out(rt: HostRuntime) {
-    check_given_out(&rt, rt.alloc(), AT_A_PORT, false, At::Port(0));
-}
-
-#[test]
-fn takes_a_socket_to_listen_at(rt: HostRuntime) {
-    let at = At::Socket("socket");
-    check_given_out(&rt, rt.alloc(), AT_A_SOCKET, false, at);
 }
 
 /// A line that asks a server at a socket.

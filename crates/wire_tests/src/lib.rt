@@ -5,6 +5,8 @@
 #[cfg(test)]
 mod command_lines;
 #[cfg(test)]
+mod object_lines;
+#[cfg(test)]
 mod replies;
 #[cfg(test)]
 mod sessions;
