@@ -298,7 +298,8 @@ def check_laziness(folder: pathlib.Path, large: Large) -> None:
 def check_status(folder: pathlib.Path, large: Large) -> None:
     """In a mount of 50,000 files `git status` asks for the trees at the paths of what was changed, as `changes` does,
     and looks at no file that wasn't: each is fetched that is looked at."""
-    words: list[str | pathlib.Path] = [sys.executable, MOUNT_GIT, "status", folder / "mounted", "--porcelain"]
+    words: list[str | pathlib.Path] = [sys.executable, MOUNT_GIT, "git", folder / "mounted", "status",
+                                     "--porcelain"]
     trees = large.deep - {git(large.repository, "rev-parse", f"HEAD:{DEEP}")}
     trees.add(git(large.repository, "rev-parse", f"HEAD:{os.fsdecode(large.folder)}"))
     with MountGit(large.repository, "HEAD", folder / "mounted", "--log", "--overlay", folder / "overlay") as mount:

@@ -412,15 +412,15 @@ def check_commits(folder: pathlib.Path, repository: pathlib.Path) -> None:
 
 
 def check_status_in_use(folder: pathlib.Path, repository: pathlib.Path) -> None:
-    """`mount-git status`, and Git itself by its environment, of a folder that is in use: by who asks, who stands in it,
+    """`git status` by `mount-git git`, and by its environment, of a folder in use: by who asks, who stands in it,
     and by who writes a file in it, whose bytes wait."""
     with MountGit(repository, "HEAD", folder / "mounted", "--overlay", folder / "overlay") as mount:
         (mount.folder / "made").write_text("made")
         (mount.folder / "run.sh").unlink()
         (mount.folder / "plain.txt").write_text("changed")
         wanted = b" M plain.txt\n D run.sh\n?? made\n"
-        by_git = 'eval "$("$0" status --environment "$1")" && git status --porcelain'
-        ways: list[list[str | pathlib.Path]] = [[MOUNT_GIT, "status", mount.folder, "--porcelain"],
+        by_git = 'eval "$("$0" git --environment "$1")" && git status --porcelain'
+        ways: list[list[str | pathlib.Path]] = [[MOUNT_GIT, "git", mount.folder, "status", "--porcelain"],
                                                 ["sh", "-c", by_git, MOUNT_GIT, mount.folder]]
         with open(mount.folder / "made", "r+b", buffering=0) as file:
             file.write(b"MADE")

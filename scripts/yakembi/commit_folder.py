@@ -1,9 +1,9 @@
-"""Commits what a folder shows that another run of `mount-git` has mounted.
+"""Commits all that a folder shows that another run of `mount-git` has mounted, what `.gitignore` names too.
 
 That run unmounts the folder for a moment, so that `mountd` closes the overlay, has `mountd snapshot` make Git's objects
 of what is the mount's own, and starts `mountd` again: nobody may stand in the folder, or have a file of it open, and
-programs that come meanwhile wait. The objects go into the repository
-by Git's own commands, and the branch is moved only where it still is at the commit that the folder stands on.
+programs that come meanwhile wait. The objects go into the repository by Git's own commands, and the branch is moved
+only where it still is at the commit that the folder stands on. `mount-git git` commits in a folder that is in use.
 """
 
 import argparse
@@ -17,13 +17,13 @@ from collections.abc import Iterator
 
 from yakembi.control import Connection, Fields, said_of, tell
 from yakembi.git import Refusal, Repository, environment, said
+from yakembi.git_folder import NO_COMMIT, GitFolder
 from yakembi.packs import objects_in, write_pack
 
 # Up to so many objects become a file each, as `git receive-pack` does it by itself; more become one pack.
 LOOSE = 100
 # Who commits, and when, as far as the caller's environment says it.
 SIGNING = re.compile(r"GIT_(AUTHOR|COMMITTER)_(NAME|EMAIL|DATE)")
-NO_COMMIT = "0" * 40
 
 
 def commit(words: argparse.Namespace) -> None:
@@ -33,6 +33,8 @@ def commit(words: argparse.Namespace) -> None:
         base = base_of(about)
         branch = branch_of(repository, words.branch, about)
         was = place_of(repository, branch, base)
+        if under_way := GitFolder(about["overlay"]).under_way():
+            raise Refusal(f"Git is in the middle of a {under_way} in the folder: end that first, by `mount-git git`")
         taken = mount.ask("snapshot")
         for line in taken["left_out"]:
             tell(line)
@@ -65,11 +67,11 @@ def base_of(about: Fields) -> str:
 
 
 def branch_of(repository: Repository, name: str | None, about: Fields) -> str:
-    """The branch that is to be moved: the one that is named, or else the one that the mounted revision named."""
+    """The branch that is to be moved: the one that is named, or else the one that the folder is on."""
     if name is None:
         named: str | None = about["branch"]
         if named is None:
-            raise Refusal("the mounted revision names no branch: name one by --branch")
+            raise Refusal("the folder is on no branch: name one by --branch")
         return named
     branch = f"refs/heads/{name}"
     if repository.git("check-ref-format", branch).returncode != 0:
@@ -125,5 +127,5 @@ def commit_parser() -> argparse.ArgumentParser:
     found.add_argument("folder", metavar="FOLDER", help="a folder that `mount-git` shows, or one below it")
     found.add_argument("-m", "--message", metavar="TEXT", required=True, help="the commit's message")
     found.add_argument("--branch", metavar="NAME",
-                       help="the branch that is moved, or made; else the one that the mounted revision named")
+                       help="the branch that is moved, or made; else the one that the folder is on")
     return found

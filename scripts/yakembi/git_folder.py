@@ -1,11 +1,13 @@
-"""What Git needs to take a mount's word of what was changed: a folder `git` in the overlay, beside the mount.
+"""The folder `git` of an overlay, by which Git works in the mounted folder as in any working tree.
 
-It is to Git what the folder of a linked working tree is: `commondir` names the repository, `HEAD` the commit that the
-mounted folder stands on, and `index` has each path of that commit. The index says of each file, in its extension for
-fsmonitor, that it was looked at, and of each directory, in its untracked cache, that it has nothing else. That is what
-`git read-tree`, `update-index` and `status` write over empty folders of the same names; the cache then has to be told
-the place at which it holds. So Git looks at those paths alone that its hook names. `told` has the paths that the hook
-named ever: what was changed back has to be looked at once more.
+It is to Git what the folder of a linked working tree is: `commondir` names the repository, `HEAD` what the mounted
+folder stands on, `logs/HEAD` how that went, and `index` has each path of that commit, or what Git made of it. So Git's
+own commands commit, switch and merge in it. Git looks at those paths alone that its hook for fsmonitor names; `told`
+has the paths that the hook named ever: what was changed back has to be looked at once more. `made` says for which mount
+it is.
+
+The repository has it among its linked working trees (`worktrees`), by a link: so `git gc` keeps what its index and its
+log name, and Git lets nobody take the branch away on which it is.
 """
 
 import contextlib
@@ -15,37 +17,41 @@ import json
 import os
 import pathlib
 import shlex
-import subprocess
-import tempfile
-from collections.abc import Iterator, Sequence
+import time
+from collections.abc import Iterator
+from typing import NamedTuple
 
-from yakembi.commit_folder import base_of
+from yakembi import git_index
 from yakembi.control import Fields
-from yakembi.fetching import Bounds, Question, Unanswered
-from yakembi.git import FOLDERS, Refusal, Remote, Repository, entries, environment, said
-from yakembi.partial_clone import SILENCE, Plain
+from yakembi.git import Refusal, Repository, said
 
 SCRIPT = pathlib.Path(__file__).resolve().parent.parent / "mount-git"
-# Of Git's hook `fsmonitor-watchman`.
-PROTOCOL = "2"
-# What is answered where nothing was changed, with a token that is never looked at.
-NOTHING_CHANGED = "printf 'made\\0' #"
-# How an index is written, whatever the user's settings are.
-PLAIN_INDEX = {"index.threads": "1", "index.sparse": "false", "index.skipHash": "false", "core.splitIndex": "false",
-               "core.sparseCheckout": "false"}
-# Where thousands of folders are made and removed in no time.
-IN_MEMORY = "/dev/shm"
-CHECKSUM = hashlib.sha1().digest_size
-IGNORE = b".gitignore"
-FILES = {b"100644", b"100755"}
+# Git moves a branch and writes HEAD's log in two steps; for so long they may differ.
+SECONDS_TO_LOG = 1.0
+SECONDS_BETWEEN = 0.05
+BRANCH = b"ref: "
+# How the names of our links begin among the repository's working trees.
+LINK = "mount-git-"
+NO_COMMIT = "0" * 40
+# What Git has in its folder while it is in the middle of something that ends in a commit.
+UNDER_WAY = {"MERGE_HEAD": "merge", "CHERRY_PICK_HEAD": "cherry-pick", "REVERT_HEAD": "revert",
+             "rebase-merge": "rebase", "rebase-apply": "rebase"}
+
+
+class Stand(NamedTuple):
+    """The commit that a mounted folder stands on, and the branch that goes on to the next one."""
+
+    commit: str | None
+    branch: str | None
 
 
 class GitFolder:
-    """The folder of an overlay. `lock` has it for one program at a time."""
+    """The folder of an overlay. `lock` has it for one run of `mount-git` at a time."""
 
-    def __init__(self, path: str | os.PathLike[str]) -> None:
-        self.path = pathlib.Path(path)
-        self.index, self.told, self.made = (self.path / name for name in ("index", "told", "made"))
+    def __init__(self, overlay: str | os.PathLike[str]) -> None:
+        self.path = pathlib.Path(overlay, "git")
+        self.index, self.told, self.made, self.head = (self.path / name for name in ("index", "told", "made", "HEAD"))
+        self.log = self.path / "logs/HEAD"
 
     @contextlib.contextmanager
     def lock(self) -> Iterator[None]:
@@ -56,12 +62,21 @@ class GitFolder:
         finally:
             os.close(descriptor)
 
+    def made_for(self) -> dict[str, str]:
+        """The mount that it is for: `top`, the mounted folder, `tree`, against which changes are told, and `of`, the
+        repository. Nothing, where it was never made."""
+        with contextlib.suppress(OSError, ValueError):
+            found = json.loads(self.made.read_text())
+            if isinstance(found, dict):
+                return {str(name): str(value) for name, value in found.items()}
+        return {}
+
     def top(self) -> str:
         """The mounted folder."""
-        with contextlib.suppress(OSError, ValueError, KeyError):
-            found: str = json.loads(self.made.read_text())["top"]
-            return found
-        raise Refusal(f"{self.path} has no index for Git: `mount-git status` makes it")
+        top = self.made_for().get("top")
+        if top is None or not self.index.exists():
+            raise Refusal(f"{self.path} has no index for Git: `mount-git git` makes it")
+        return top
 
     def tell(self, paths: set[bytes]) -> set[bytes]:
         """Those paths, and all that were told before."""
@@ -71,166 +86,160 @@ class GitFolder:
             file.write(b"".join(path + b"\0" for path in sorted(paths - before)))
         return paths | before
 
-    def variables(self, top: str, index: pathlib.Path, settings: dict[str, str]) -> dict[str, str]:
-        """The environment by which Git has that index of the folder, and leaves the repository's own alone."""
-        found = {"GIT_DIR": str(self.path), "GIT_WORK_TREE": top, "GIT_INDEX_FILE": str(index),
-                 "GIT_NO_REPLACE_OBJECTS": "1", "GIT_CONFIG_COUNT": str(len(settings))}
-        for number, (name, value) in enumerate(settings.items()):
-            found |= {f"GIT_CONFIG_KEY_{number}": name, f"GIT_CONFIG_VALUE_{number}": value}
-        return found
+    # ---- Git in it
 
-    def for_looking(self, top: str) -> dict[str, str]:
-        """The environment in which Git asks the mount. What looks writes no index: the next look is as this one."""
-        hook = f"{shlex.quote(str(SCRIPT))} fsmonitor {shlex.quote(str(self.path))}"
-        settings = {"core.fsmonitor": hook, "core.fsmonitorHookVersion": PROTOCOL, "core.untrackedCache": "keep",
-                    "core.sparseCheckout": "false"}
-        return {**self.variables(top, self.index, settings), "GIT_OPTIONAL_LOCKS": "0"}
+    def variables(self, top: str) -> dict[str, str]:
+        """The environment in which Git asks the mount. What only looks writes no index."""
+        hook = f"{shlex.quote(str(SCRIPT))} fsmonitor {shlex.quote(str(self.path.parent))}"
+        settings = {"core.fsmonitor": hook, "core.fsmonitorHookVersion": git_index.PROTOCOL,
+                    "core.untrackedCache": "keep", "core.sparseCheckout": "false", "core.logAllRefUpdates": "true"}
+        return {**git_index.variables(self.linked(), top, self.index, settings), "GIT_OPTIONAL_LOCKS": "0"}
 
-    def git(self, variables: dict[str, str], *words: str, data: bytes = b"") -> bytes:
-        # Not in the mounted folder, as the hook is, where paths would be those from there.
-        done = subprocess.run(["git", *words], input=data, capture_output=True, cwd=self.path,
-                              env={**environment(), **variables})
-        if done.returncode != 0:
-            raise Refusal(f"there is no index for Git{said(done.stderr)}")
-        return done.stdout
+    def say(self, *words: str) -> list[bytes]:
+        """What Git says of an index of the folder, in fields that end in zero bytes. It is the one that Git names to
+        its hook, which may be another than the folder's own."""
+        index = os.environ.get("GIT_INDEX_FILE", self.index)
+        told = git_index.variables(self.path, self.top(), index, {"core.fsmonitor": "false"})
+        return git_index.run(self.path, told, *words).split(b"\0")[:-1]
 
     def tracked(self) -> list[bytes]:
         """The paths in the index, in byte order."""
-        variables = self.variables(self.top(), self.index, {"core.fsmonitor": "false"})
-        return self.git(variables, "ls-files", "-z").split(b"\0")[:-1]
+        return self.say("ls-files", "-z")
+
+    def otherwise(self) -> set[bytes]:
+        """The paths that the index has otherwise than the tree against which changes are told."""
+        return set(self.say("diff-index", "--cached", "--name-only", "--no-renames", "-z", self.made_for()["tree"]))
+
+    def under_way(self) -> str | None:
+        """What Git is in the middle of, in a word."""
+        return next((word for name, word in UNDER_WAY.items() if (self.path / name).exists()), None)
+
+    # ---- what the folder stands on
+
+    def stands_on(self, repository: Repository, tree: str, noted: str | None) -> Stand | None:
+        """What HEAD says, where Git may work in a folder that was mounted with that tree; None where it never did.
+
+        Where HEAD's branch isn't at the commit at which its log ends (or which the overlay's note has, where there is
+        none), it was moved from elsewhere, or was just moved from here: then the log is looked at again for a while. A
+        folder whose branch was moved from elsewhere stands where it stood, and on no branch.
+        """
+        made = self.made_for()
+        if (made.get("tree"), made.get("of")) != (tree, repository.common_folder):
+            return None
+        end = time.monotonic() + SECONDS_TO_LOG
+        while True:
+            head, last = self.head.read_bytes().removesuffix(b"\n"), self.last_logged() or noted
+            if not head.startswith(BRANCH):
+                return Stand(head.decode(), None)
+            branch = os.fsdecode(head.removeprefix(BRANCH))
+            if repository.commit_id(branch) in (None, last):
+                return Stand(last, branch)
+            if time.monotonic() > end:
+                return Stand(last, None)
+            time.sleep(SECONDS_BETWEEN)
+
+    def last_logged(self) -> str | None:
+        """The commit at which HEAD's log ends."""
+        with contextlib.suppress(OSError, IndexError):
+            return self.log.read_bytes().splitlines()[-1].split()[1].decode()
+        return None
+
+    def stand_on(self, repository: Repository, commit: str, branch: str | None, why: str) -> None:
+        """Has HEAD say so: the branch, where it is at the commit or nowhere yet, and else the commit. The log tells it,
+        and why."""
+        is_there = branch is not None and repository.commit_id(branch) in (None, commit)
+        named = BRANCH + os.fsencode(branch or "") if is_there else commit.encode()
+        before = self.last_logged() or NO_COMMIT
+        if before != commit:
+            self.log.parent.mkdir(exist_ok=True)
+            with open(self.log, "ab") as log:
+                log.write(f"{before} {commit} ".encode() + who(repository) + f"\t{why}\n".encode())
+        if not self.head.exists() or self.head.read_bytes() != named + b"\n":
+            self.write_head(named + b"\n")
+
+    def write_head(self, line: bytes) -> None:
+        """Writes HEAD as Git does: who else writes it meanwhile is refused."""
+        written = self.path / "HEAD.lock"
+        try:
+            with open(written, "xb") as file:
+                file.write(line)
+        except FileExistsError:
+            raise Refusal(f"Git is at work in the folder, or left {written}") from None
+        written.replace(self.head)
+
+    def go_on(self, repository: Repository, commit: str) -> None:
+        """The folder stands on a commit that was just made of all that it shows. Its index is to be made anew."""
+        with self.lock():
+            head = self.head.read_bytes().removesuffix(b"\n")
+            branch = os.fsdecode(head.removeprefix(BRANCH)) if head.startswith(BRANCH) else None
+            self.index.unlink(missing_ok=True)
+            self.stand_on(repository, commit, branch, "commit: mount-git commit")
+
+    def holds_at(self, top: str) -> None:
+        """Its index, and what is staged in it, holds for the folder now that it is mounted there."""
+        with contextlib.suppress(OSError, Refusal):
+            moved = git_index.moved(self.index.read_bytes(), self.top(), top)
+            written = self.path / "new"
+            written.write_bytes(moved)
+            written.replace(self.index)
+            return
+        self.index.unlink(missing_ok=True)
+
+    # ---- to the repository
+
+    def linked(self) -> pathlib.Path:
+        """Where Git finds it, among the repository's linked working trees, of which Git forgets those whose overlay is
+        gone. Where these can't be written Git finds it here, and makes no objects that would have to be kept."""
+        trees = pathlib.Path(os.path.realpath(self.made_for()["of"]), "worktrees")
+        link = trees / f"{LINK}{hashlib.sha256(os.fsencode(self.path)).hexdigest()[:16]}"
+        # By this name Git knows that the working tree is there.
+        there = self.path / ".git"
+        with contextlib.suppress(OSError):
+            there.mkdir(exist_ok=True)
+            (self.path / "gitdir").write_bytes(os.fsencode(there) + b"\n")
+            trees.mkdir(exist_ok=True)
+            for other in trees.glob(f"{LINK}*"):
+                if not other.exists():
+                    other.unlink()
+            if not link.is_symlink():
+                link.symlink_to(self.path)
+        return link if link.exists() else self.path
+
+
+def who(repository: Repository) -> bytes:
+    """Who writes into a log, and when, as Git writes that."""
+    done = repository.git("var", "GIT_COMMITTER_IDENT")
+    return done.stdout.strip() if done.returncode == 0 else f"mount-git <mount-git> {int(time.time())} +0000".encode()
 
 
 def folder_for_git(about: Fields, top: str) -> GitFolder:
-    """The folder of a mount, made where it isn't there for the commit on which the mount stands."""
-    commit, repository = base_of(about), Repository(about["repository"])
-    folder = GitFolder(os.path.join(about["overlay"], "git"))
+    """The folder of a mount, made where it isn't there."""
+    if about["commit"] is None:
+        raise Refusal("the folder shows a tree, and isn't known to stand on a commit")
+    repository, folder = Repository(about["repository"]), GitFolder(about["overlay"])
     folder.path.mkdir(exist_ok=True)
-    stands = json.dumps({"top": top, "tree": about["tree"], "commit": commit, "of": repository.common_folder})
+    made = {"top": top, "tree": about["tree"], "of": repository.common_folder}
     with folder.lock():
         (folder.path / "commondir").write_bytes(os.fsencode(repository.common_folder) + b"\n")
-        (folder.path / "HEAD").write_bytes(head_at(repository, about["branch"], commit) + b"\n")
-        if not (folder.made.exists() and folder.index.exists() and folder.made.read_text() == stands):
-            folder.made.unlink(missing_ok=True)
-            make(folder, repository, top, about["tree"], commit)
-            folder.made.write_text(stands)
+        folder.stand_on(repository, about["commit"], about["branch"], f"mount-git: {top}")
+        before = folder.made_for()
+        if before != made:
+            if {**before, "top": top} == made:
+                folder.holds_at(top)
+            else:
+                folder.index.unlink(missing_ok=True)
+            folder.made.write_text(json.dumps(made))
+        if not folder.index.exists():
+            make(folder, repository, top, about["tree"], about["commit"])
     return folder
-
-
-def head_at(repository: Repository, branch: str | None, commit: str) -> bytes:
-    """The branch, where it is at the commit; else the commit."""
-    is_there = branch is not None and repository.commit_id(branch) == commit
-    return b"ref: " + os.fsencode(branch) if branch is not None and is_there else commit.encode()
 
 
 def make(folder: GitFolder, repository: Repository, top: str, tree: str, commit: str) -> None:
     """Writes the index of a commit, and what of it differs from the tree that `changes` are told against."""
     index = folder.path / "new"
-    where = IN_MEMORY if os.access(IN_MEMORY, os.W_OK) else None
-    with tempfile.TemporaryDirectory(prefix="mount-git.", dir=where) as name:
-        empty = pathlib.Path(os.path.realpath(name))
-        settings = {**PLAIN_INDEX, "core.fsmonitor": NOTHING_CHANGED, "core.fsmonitorHookVersion": PROTOCOL,
-                    "core.untrackedCache": "true"}
-        variables = folder.variables(str(empty), index, settings)
-        index.unlink(missing_ok=True)
-        bring_trees(repository, repository.tree_of(commit))
-        folder.git(variables, "read-tree", commit)
-        make_folders(empty, folder.git(variables, "ls-files", "-sz"), repository)
-        paths = folder.git(variables, "ls-files", "-z")
-        folder.git(variables, "update-index", "--fsmonitor", "-z", "--fsmonitor-valid", "--stdin", data=paths)
-        folder.git(variables, "status", "--porcelain")
-        index.write_bytes(moved(index.read_bytes(), os.fsencode(empty), os.fsencode(top)))
+    git_index.write_index(folder.path, index, repository, top, commit)
     differing = repository.git("diff-tree", "-r", "-z", "--no-renames", "--name-only", tree, commit)
     if differing.returncode != 0:
         raise Refusal(f"there is no index for Git{said(differing.stderr)}")
     folder.told.write_bytes(differing.stdout)
     index.replace(folder.index)
-
-
-def bring_trees(repository: Repository, top: str) -> None:
-    """Brings what a partial clone lacks of a tree's trees, and of the files that say what Git ignores: a question for
-    each level, where Git would ask for one after another."""
-    remotes = repository.remotes()
-    if not remotes:
-        return
-    here = Plain(repository)
-    objects = here.objects()
-    try:
-        level, seen, rules = [top], {top}, set()
-        while level:
-            bring(here, repository, remotes, level)
-            below: dict[str, None] = {}
-            for tree in level:
-                found = objects.ask(tree)
-                body = b"".join(objects.pieces(found[1])) if found else b""
-                for mode, name, object_id in entries(tree, body):
-                    if mode in FOLDERS:
-                        below[object_id] = None
-                    elif name == IGNORE and mode in FILES:
-                        rules.add(object_id)
-            level = [tree for tree in below if tree not in seen]
-            seen.update(level)
-        bring(here, repository, remotes, sorted(rules))
-    finally:
-        objects.end()
-        here.end()
-
-
-def bring(here: Plain, repository: Repository, remotes: Sequence[Remote], ids: list[str]) -> None:
-    """Asks one remote after another for those of the objects that aren't here."""
-    why = ""
-    for remote in remotes:
-        if absent := here.absent(ids):
-            try:
-                Question(repository, remote, absent).ask(Bounds(SILENCE))
-            except Unanswered as problem:
-                why = f": {problem}"
-    if here.absent(ids):
-        raise Refusal(f"the repository lacks objects, and no remote gave them{why}")
-
-
-def make_folders(at: pathlib.Path, rows: bytes, repository: Repository) -> None:
-    """Makes the folders of an index's paths there, and in them the files alone that say what Git ignores."""
-    made, objects = set(), repository.objects()
-    try:
-        for row in rows.split(b"\0")[:-1]:
-            head, path = row.split(b"\t", 1)
-            mode, object_id, _ = head.split()
-            directory, name = os.path.split(os.path.join(os.fsencode(at), path))
-            if directory not in made:
-                os.makedirs(directory, exist_ok=True)
-                made.add(directory)
-            if name == IGNORE and mode in FILES:
-                found = objects.ask(object_id.decode())
-                if found is None:
-                    raise Refusal(f"the repository lacks {object_id.decode()}, which is {os.fsdecode(path)}")
-                with open(os.path.join(directory, name), "wb") as file:
-                    file.writelines(objects.pieces(found[1]))
-    finally:
-        objects.end()
-
-
-def moved(index: bytes, old: bytes, new: bytes) -> bytes:
-    """The index, whose untracked cache holds at another place.
-
-    The cache begins with its name, how long it is, and the place, before which stands how long that is, with its end.
-    """
-    head, tail = b"Location " + old, b", system " + os.fsencode(os.uname().sysname) + b"\0"
-    at = index.find(head + tail)
-    before, after = (number(len(b"Location " + place + tail)) for place in (old, new))
-    start = at - len(before) - 8
-    if at < 0 or index[start : start + 4] != b"UNTR":
-        raise Refusal("this Git writes no untracked cache that can be read")
-    length = int.from_bytes(index[start + 4 : start + 8], "big")
-    body = after + b"Location " + new + index[at + len(head) : start + 8 + length]
-    rest = index[start + 8 + length : -CHECKSUM]
-    whole = index[:start] + b"UNTR" + len(body).to_bytes(4, "big") + body + rest
-    return whole + hashlib.sha1(whole).digest()
-
-
-def number(value: int) -> bytes:
-    """A number as it stands in a pack before an offset, and in an index."""
-    found = [value & 127]
-    while value := value >> 7:
-        value -= 1
-        found.append(128 | value & 127)
-    return bytes(reversed(found))

@@ -21,10 +21,11 @@ import time
 from collections.abc import Callable, Iterator, Sequence
 from typing import BinaryIO, Protocol
 
-from yakembi import commit_folder, control, folder_changes, folder_status, kernel
+from yakembi import commit_folder, control, folder_changes, kernel, run_git
 from yakembi.addresses import socket_path
 from yakembi.control import Answers, Fields, tell
 from yakembi.git import Refusal, Repository, said
+from yakembi.git_folder import GitFolder, Stand
 from yakembi.git_objects import number_of_bytes
 from yakembi.kernel import Result, Unclosed, Unopened
 from yakembi.overlay import InUse, Noted, OverlayFolder
@@ -199,6 +200,7 @@ class Asked:
         self.repository = repository
         self.branch = repository.branch_of(revision)
         self.overlay = overlay
+        self.git = GitFolder(overlay.path)
 
     def answers(self) -> Answers:
         return {"about": self.about, "changes": self.changes, "snapshot": self.snapshot, "committed": self.committed}
@@ -211,10 +213,12 @@ class Asked:
 
     def about(self, fields: Fields, folder: pathlib.Path) -> Fields:
         """The repository, the overlay, the tree that changes are told against, and the commit and the branch that the
-        folder stands on."""
+        folder stands on. Where Git worked in the folder, its HEAD says these, and the note follows it."""
         noted = self.noted()
+        stand = self.git.stands_on(self.repository, noted.tree, noted.commit) or Stand(noted.commit, self.branch)
+        self.overlay.write_note(noted._replace(commit=stand.commit))
         return {"repository": os.path.abspath(self.repository.path), "overlay": self.overlay.path, "tree": noted.tree,
-                "commit": noted.commit, "branch": self.branch}
+                "commit": stand.commit, "branch": stand.branch}
 
     def changes(self, fields: Fields, folder: pathlib.Path) -> Fields:
         """A file with the lines of what was changed. The folder may be in use."""
@@ -241,7 +245,10 @@ class Asked:
 
     def committed(self, fields: Fields, folder: pathlib.Path) -> Fields:
         """The next commit is put on that one."""
-        self.overlay.write_note(self.noted()._replace(commit=control.text_of(fields, "commit")))
+        commit = control.text_of(fields, "commit")
+        self.overlay.write_note(self.noted()._replace(commit=commit))
+        if self.git.made_for():
+            self.git.go_on(self.repository, commit)
         return {}
 
 
@@ -339,8 +346,8 @@ def parser() -> argparse.ArgumentParser:
 COMMANDS: dict[str, tuple[Callable[[argparse.Namespace], None], Callable[[], argparse.ArgumentParser]]] = {
     "changes": (folder_changes.changes, folder_changes.changes_parser),
     "commit": (commit_folder.commit, commit_folder.commit_parser),
-    "status": (folder_status.status, folder_status.status_parser),
-    "fsmonitor": (folder_status.fsmonitor, folder_status.fsmonitor_parser),
+    "git": (run_git.git, run_git.git_parser),
+    "fsmonitor": (run_git.fsmonitor, run_git.fsmonitor_parser),
 }
 
 

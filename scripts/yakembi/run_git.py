@@ -1,9 +1,10 @@
-"""Shows `git status` of a folder that another run of `mount-git` has mounted, which looks at what was changed alone.
+"""Runs Git in a folder that another run of `mount-git` has mounted, as in any working tree: to look at what was
+changed, to commit it, to switch branches. Git asks the mount what was changed, and looks at nothing else.
 
-Git reads an index of the commit that the folder stands on, which lies in the overlay, and asks `mount-git fsmonitor`,
-in the protocol of its hook, what was changed. The repository's own index and settings stay as they are. With
---environment nothing is run, and lines for a shell are printed that let other programs use Git so: eval "$(mount-git
-status --environment FOLDER)". That is for looking; what is committed by `mount-git commit` is known to the mount.
+Its branches, objects and settings are the repository's. Its index and HEAD lie in the overlay, and those of the
+repository's own working directory stay as they are. Words behind the folder are Git's: mount-git git FOLDER commit -a.
+With --environment nothing is run, and lines for a shell are printed by which other programs use Git so:
+eval "$(mount-git git --environment FOLDER)".
 """
 
 import argparse
@@ -18,22 +19,25 @@ from collections.abc import Callable, Iterable, Iterator
 from yakembi.control import Connection
 from yakembi.folder_changes import Change, changes_in
 from yakembi.git import Refusal
-from yakembi.git_folder import PROTOCOL, GitFolder, folder_for_git
+from yakembi.git_folder import GitFolder, folder_for_git
+from yakembi.git_index import PROTOCOL
 
 TOKEN = b"mount-git"
 # The name of anything in a directory, which makes Git look through that directory.
 ANYTHING = b"/-"
 
 
-def status(words: argparse.Namespace) -> None:
+def git(words: argparse.Namespace) -> None:
     with contextlib.closing(Connection(words.folder)) as mount:
         about, top = mount.ask("about"), mount.top
-        variables = folder_for_git(about, top).for_looking(top)
-        if words.environment:
-            for name, value in variables.items():
-                print(f"export {name}={shlex.quote(value)}")
-            return
-    sys.exit(subprocess.run(["git", "status", *words.words], env={**of_no_repository(), **variables}).returncode)
+        variables = folder_for_git(about, top).variables(top)
+    if words.environment:
+        for name, value in variables.items():
+            print(f"export {name}={shlex.quote(value)}")
+        return
+    environment = {**of_no_repository(), **variables}
+    os.chdir(words.folder)
+    os.execvpe("git", ["git", *words.words], environment)
 
 
 def of_no_repository() -> dict[str, str]:
@@ -43,16 +47,17 @@ def of_no_repository() -> dict[str, str]:
 
 
 def fsmonitor(words: argparse.Namespace) -> None:
-    """Answers Git's hook `core.fsmonitor` for an index that `mount-git status` made, which names this command to Git.
+    """Answers Git's hook `core.fsmonitor` for an index that `mount-git git` made, which names this command to Git.
 
-    It prints the paths at which Git has to look: what was changed since the commit, and what was told to have been.
+    It prints the paths at which Git has to look: what was changed since the commit that was mounted, what the index has
+    otherwise than that one, and what was told to have been changed.
     Where it fails Git looks at every file.
     """
     if words.version != PROTOCOL:
         raise Refusal(f"the hook's protocol is version {PROTOCOL}, and not {words.version}")
-    folder = GitFolder(words.place)
+    folder = GitFolder(words.overlay)
     with contextlib.closing(Connection(folder.top())) as mount, open(mount.ask("changes")["lines"], "rb") as told:
-        paths = to_look_at(changes_in(told), folder.tracked)
+        paths = to_look_at(changes_in(told), folder.tracked) | folder.otherwise()
     sys.stdout.buffer.write(b"".join(field + b"\0" for field in (TOKEN, *sorted(folder.tell(paths)))))
     sys.stdout.flush()
 
@@ -84,20 +89,21 @@ def directories_below(top: bytes, paths: list[bytes]) -> Iterator[bytes]:
             yield path
 
 
-def status_parser() -> argparse.ArgumentParser:
-    found = argparse.ArgumentParser(prog="mount-git status", description=__doc__,
+def git_parser() -> argparse.ArgumentParser:
+    found = argparse.ArgumentParser(prog="mount-git git", description=__doc__,
                                     formatter_class=argparse.RawDescriptionHelpFormatter)
     found.add_argument("--environment", action="store_true",
-                       help="print the variables by which Git looks at the folder, as lines for a shell")
-    found.add_argument("folder", metavar="FOLDER", help="a folder that `mount-git` shows, or one below it")
-    found.add_argument("words", metavar="ARG", nargs=argparse.REMAINDER, help="what `git status` is given")
+                       help="print the variables by which Git works in the folder, as lines for a shell")
+    found.add_argument("folder", metavar="FOLDER", help="a folder that `mount-git` shows, or one below it, in which "
+                       "Git is run")
+    found.add_argument("words", metavar="ARG", nargs=argparse.REMAINDER, help="what Git is given")
     return found
 
 
 def fsmonitor_parser() -> argparse.ArgumentParser:
     found = argparse.ArgumentParser(prog="mount-git fsmonitor", description=fsmonitor.__doc__,
                                     formatter_class=argparse.RawDescriptionHelpFormatter)
-    found.add_argument("place", metavar="PLACE", help="the folder `git` in the mount's overlay")
+    found.add_argument("overlay", metavar="OVERLAY", help="the mount's overlay, which has a folder `git`")
     found.add_argument("version", metavar="VERSION", help="of the hook's protocol")
     found.add_argument("token", metavar="TOKEN", help="what the last answer began with")
     return found
