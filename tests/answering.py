@@ -1,5 +1,6 @@
 """Runs of `mount-git` that ask a mount of a commit, which stands in for one by FUSE."""
 
+import os
 import pathlib
 import subprocess
 import sys
@@ -17,4 +18,4 @@ AUTHOR = {"GIT_AUTHOR_NAME": "A", "GIT_AUTHOR_EMAIL": "a@example.org", "GIT_AUTH
 def mount_git(command: str, folder: pathlib.Path, *words: str) -> tuple[int, str, str]:
     done = subprocess.run([sys.executable, str(MOUNT_GIT), command, str(folder), *words], capture_output=True,
                           env={**environment(), **AUTHOR})
-    return done.returncode, done.stdout.decode(), done.stderr.decode()
+    return done.returncode, os.fsdecode(done.stdout), done.stderr.decode()

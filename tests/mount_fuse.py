@@ -14,6 +14,7 @@ from collections import Counter
 from collections.abc import Callable, Iterable
 from concurrent.futures import ThreadPoolExecutor
 
+from answering import AUTHOR
 from checks import PATIENCE, check, finished, git, make_repository
 from clones import FILES, FOLDER, MOST_QUESTIONS, Clone, blobs_in, make_far_repository, trees_on_the_way
 from folder_operations import Folder, compare, outcome, shown
@@ -297,21 +298,31 @@ def check_laziness(folder: pathlib.Path, large: Large) -> None:
 
 def check_status(folder: pathlib.Path, large: Large) -> None:
     """In a mount of 50,000 files `git status` asks for the trees at the paths of what was changed, as `changes` does,
-    and looks at no file that wasn't: each is fetched that is looked at."""
-    words: list[str | pathlib.Path] = [sys.executable, MOUNT_GIT, "git", folder / "mounted", "status",
-                                     "--porcelain"]
+    and looks at no file that wasn't: each is fetched that is looked at. So does a commit of it, and a switch to a new
+    branch asks for nothing."""
+    words: list[str | pathlib.Path] = [sys.executable, MOUNT_GIT, "git", folder / "mounted"]
     trees = large.deep - {git(large.repository, "rev-parse", f"HEAD:{DEEP}")}
     trees.add(git(large.repository, "rev-parse", f"HEAD:{os.fsdecode(large.folder)}"))
+    branch, before = git(large.repository, "symbolic-ref", "HEAD"), git(large.repository, "rev-parse", "HEAD")
     with MountGit(large.repository, "HEAD", folder / "mounted", "--log", "--overlay", folder / "overlay") as mount:
         (mount.folder / DEEP).write_bytes(b"changed\n")
         (mount.folder / os.fsdecode(large.folder) / "new").write_bytes(b"new\n")
-        for name, at in [("the first", folder), ("one in the folder", mount.folder)]:
-            before = Counter(asked_for(mount.log))
-            done = subprocess.run(words, capture_output=True, env=environment(), cwd=at)
-            told = f" M {DEEP}\n?? {os.fsdecode(large.folder)}/new\n".encode()
-            check(f"status: {name}", (done.returncode, done.stdout, done.stderr), (0, told, b""))
-            check(f"status: what {name} costs", Counter(asked_for(mount.log)) - before, Counter(trees))
+        told = f" M {DEEP}\n?? {os.fsdecode(large.folder)}/new\n".encode()
+        left = f"?? {os.fsdecode(large.folder)}/new\n".encode()
+        rows: list[tuple[str, pathlib.Path, list[str], bytes, set[str]]] = [
+            ("the first", folder, ["status", "--porcelain"], told, trees),
+            ("one in the folder", mount.folder, ["status", "--porcelain"], told, trees),
+            ("a commit", folder, ["commit", "-qam", "deep"], b"", trees),
+            ("after it", folder, ["status", "--porcelain"], left, trees),
+            ("a branch", folder, ["switch", "-qc", "begun"], b"", set())]
+        for name, at, more, wanted, cost in rows:
+            asked = Counter(asked_for(mount.log))
+            done = subprocess.run([*words, *more], capture_output=True, env={**environment(), **AUTHOR}, cwd=at)
+            check(f"status: {name}", (done.returncode, done.stdout, done.stderr), (0, wanted, b""))
+            check(f"status: what {name} costs", Counter(asked_for(mount.log)) - asked, Counter(cost))
+        check("status: what was committed", git(large.repository, "show", f"begun:{DEEP}"), "changed")
         check("status: the end", mount.end("SIGTERM"), 0)
+    git(large.repository, "update-ref", branch, before)
 
 
 # ---- partial clones
