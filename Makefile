@@ -34,7 +34,7 @@ lint: ## looks at layout, columns, types, pages and wrong bodies, and runs the t
 wrong-bodies: ## tries the wrong bodies that the gate leaves out, or those of CRATE=NAME; goes on where it was stopped
 	@scripts/wrong-bodies $(CRATE)
 
-soak: ## a million random requests: the slow oracle beside the second table of operations, attempts beside the slow oracle, and events on mounts; ten minutes of many clients; many rounds in want of memory and room; each growth refused on a larger commit; remotes of partial clones that fail two hundred times; a million random requests that commits are made of; a hundred thousand damaged files of repositories; eleven million requests of one session, four clients for ten minutes, three million requests of a mount and a million messages of a folder
+soak: ## a million random requests: the slow oracle beside the second table of operations, attempts beside the slow oracle, and events on mounts; ten minutes of many clients; many rounds in want of memory and room; each growth refused on a larger commit; remotes of partial clones that fail two hundred times; a million random requests that commits are made of; a hundred thousand damaged files of repositories; eleven million requests of one session, four clients for ten minutes, three million requests of a mount, a million messages of a folder, and two thousand commands of Git in one
 	tests/oracle 1000000
 	scripts/soak-rows
 	@scripts/build-mountd
@@ -44,6 +44,7 @@ soak: ## a million random requests: the slow oracle beside the second table of o
 	tests/partial-clones 200
 	seq 25 | xargs -P 2 -I SEED tests/commits crates/mountd/out/mountd SEED 40000 -k test_random
 	seq 25 | xargs -P 2 -I SEED tests/git-repositories crates/mountd/out/mountd 4000 SEED -k Damaged
+	tests/git-status crates/mountd/out/mountd 1 600 2000 -k ByKernel
 	tests/long-session crates/mountd/out/mountd 10000000 1000000 600
 	tests/mounted crates/mountd/out/mountd 1 3000000 -k test_long_folder -k test_users -k test_random_files -k OverMessages -k test_kills_at_work
 
