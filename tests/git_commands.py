@@ -147,6 +147,7 @@ class Twins:
             self.mounted.variables = dict(word.split("=", 1) for word in words)
             yield
             check("the end", mount.end("SIGTERM"), 0)
+            check("git has no folder any more", self.mounted.run(["commit", "-qam", "all is gone"])[0], 128)
             # A branch that has moved on isn't the mounted tree any more.
             check("nothing is said", [line for line in mount.said() if "the overlay stands on" not in line], [])
 

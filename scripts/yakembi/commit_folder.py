@@ -17,7 +17,7 @@ from collections.abc import Iterator
 
 from yakembi.control import Connection, Fields, said_of, tell
 from yakembi.git import Refusal, Repository, environment, said
-from yakembi.git_folder import NO_COMMIT, GitFolder
+from yakembi.git_folder import NO_COMMIT, GitFolder, base_in
 from yakembi.packs import objects_in, write_pack
 
 # Up to so many objects become a file each, as `git receive-pack` does it by itself; more become one pack.
@@ -29,11 +29,11 @@ SIGNING = re.compile(r"GIT_(AUTHOR|COMMITTER)_(NAME|EMAIL|DATE)")
 def commit(words: argparse.Namespace) -> None:
     with contextlib.closing(Connection(words.folder)) as mount:
         about = mount.ask("about")
-        repository = Repository(about["repository"])
-        base = base_of(about)
+        repository, folder = Repository(about["repository"]), GitFolder(about["overlay"])
+        base = base_in(about)
         branch = branch_of(repository, words.branch, about)
         was = place_of(repository, branch, base)
-        if under_way := GitFolder(about["overlay"]).under_way():
+        if under_way := folder.under_way():
             raise Refusal(f"Git is in the middle of a {under_way} in the folder: end that first, by `mount-git git`")
         taken = mount.ask("snapshot")
         for line in taken["left_out"]:
@@ -43,9 +43,9 @@ def commit(words: argparse.Namespace) -> None:
         put(repository, objects_in(pathlib.Path(taken["folder"])))
         made = committed(repository, taken["tree"], base, words.message)
         with said_behind(f"the commit {made} is made, but"):
-            move(repository, branch, made, was, words.message)
-        with said_behind(f"{branch} is moved to the commit {made}, but the mount won't put the next one on it:"):
-            mount.ask("committed", commit=made)
+            folder.move(repository, branch, made, was, f"commit: {next(iter(words.message.splitlines()), '')}")
+        with said_behind(f"{branch} is moved to the commit {made}, but the mount doesn't know all of that:"):
+            mount.ask("committed", commit=made, branch=branch)
     print(f"{made} {branch}", flush=True)
 
 
@@ -56,14 +56,6 @@ def said_behind(what: str) -> Iterator[None]:
         yield
     except (Refusal, OSError) as problem:
         raise Refusal(f"{what} {said_of(problem)}") from None
-
-
-def base_of(about: Fields) -> str:
-    """The commit that the folder stands on."""
-    if about["commit"] is None:
-        raise Refusal("the folder shows a tree, and isn't known to stand on a commit")
-    found: str = about["commit"]
-    return found
 
 
 def branch_of(repository: Repository, name: str | None, about: Fields) -> str:
@@ -111,14 +103,6 @@ def committed(repository: Repository, tree: str, base: str, message: str) -> str
     if done.returncode != 0:
         raise Refusal(f"there is no commit{said(done.stderr)}")
     return done.stdout.decode().strip()
-
-
-def move(repository: Repository, branch: str, made: str, was: str, message: str) -> None:
-    """Moves the branch, where it still is where it was."""
-    first = next(iter(message.splitlines()), "")
-    done = repository.git("update-ref", "-m", f"commit: {first}", branch, made, was)
-    if done.returncode != 0:
-        raise Refusal(f"{branch} isn't moved{said(done.stderr)}")
 
 
 def commit_parser() -> argparse.ArgumentParser:

@@ -7,7 +7,8 @@ has the paths that the hook named ever: what was changed back has to be looked a
 it is.
 
 The repository has it among its linked working trees (`worktrees`), by a link: so `git gc` keeps what its index and its
-log name, and Git lets nobody take the branch away on which it is.
+log name, and Git lets nobody take the branch away on which it is. It is a locked one, or Git would tidy it up through
+the link.
 """
 
 import contextlib
@@ -16,40 +17,46 @@ import hashlib
 import json
 import os
 import pathlib
+import re
 import shlex
 import time
 from collections.abc import Iterator
 from typing import NamedTuple
 
 from yakembi import git_index
-from yakembi.control import Fields
+from yakembi.control import Fields, tell
 from yakembi.git import Refusal, Repository, said
 
 SCRIPT = pathlib.Path(__file__).resolve().parent.parent / "mount-git"
-# Git moves a branch and writes HEAD's log in two steps; for so long they may differ.
-SECONDS_TO_LOG = 1.0
-SECONDS_BETWEEN = 0.05
-BRANCH = b"ref: "
-# How the names of our links begin among the repository's working trees.
-LINK = "mount-git-"
+# How long Git may hold HEAD, and how long we wait between two looks.
+SECONDS_HELD = 1.0
+SECONDS_BETWEEN = 0.02
+# What HEAD says: a branch, or a commit.
+HEAD = re.compile(rb"(?:ref: (refs/.+)|([0-9a-f]{40}))\n?")
 NO_COMMIT = "0" * 40
+# How the names of our links begin among the repository's working trees, and how long one stays that leads nowhere, as
+# where the overlay lies on a disk that isn't there just now.
+LINK = "mount-git-"
+SECONDS_KEPT = 90 * 86_400
 # What Git has in its folder while it is in the middle of something that ends in a commit.
 UNDER_WAY = {"MERGE_HEAD": "merge", "CHERRY_PICK_HEAD": "cherry-pick", "REVERT_HEAD": "revert",
-             "rebase-merge": "rebase", "rebase-apply": "rebase"}
+             "rebase-merge": "rebase", "rebase-apply": "rebase", "sequencer": "cherry-pick"}
 
 
 class Stand(NamedTuple):
-    """The commit that a mounted folder stands on, and the branch that goes on to the next one."""
+    """The commit that a mounted folder stands on, where its branch has one, and the branch that goes on to the next
+    one. `left` is the branch that it was on until it was looked at, where somebody else had moved that."""
 
     commit: str | None
     branch: str | None
+    left: str | None = None
 
 
 class GitFolder:
-    """The folder of an overlay. `lock` has it for one run of `mount-git` at a time."""
+    """The folder of an overlay. `lock` has it for one run of `mount-git` at a time; Git has locks of its own."""
 
     def __init__(self, overlay: str | os.PathLike[str]) -> None:
-        self.path = pathlib.Path(overlay, "git")
+        self.path = pathlib.Path(os.path.realpath(overlay), "git")
         self.index, self.told, self.made, self.head = (self.path / name for name in ("index", "told", "made", "HEAD"))
         self.log = self.path / "logs/HEAD"
 
@@ -61,6 +68,16 @@ class GitFolder:
             yield
         finally:
             os.close(descriptor)
+
+    def put(self, name: str, content: bytes) -> None:
+        """A file of that content, old or new whatever happens meanwhile."""
+        file = self.path / name
+        with contextlib.suppress(FileNotFoundError):
+            if file.read_bytes() == content:
+                return
+        written = self.path / f"{name}.new"
+        written.write_bytes(content)
+        written.replace(file)
 
     def made_for(self) -> dict[str, str]:
         """The mount that it is for: `top`, the mounted folder, `tree`, against which changes are told, and `of`, the
@@ -83,127 +100,166 @@ class GitFolder:
         with self.lock(), open(self.told, "a+b") as file:
             file.seek(0)
             before = set(file.read().split(b"\0")) - {b""}
-            file.write(b"".join(path + b"\0" for path in sorted(paths - before)))
+            # What a full disk cut ends before the first of these.
+            file.write(b"".join(b"\0" + path for path in sorted(paths - before)) + b"\0")
         return paths | before
 
     # ---- Git in it
 
-    def variables(self, top: str) -> dict[str, str]:
-        """The environment in which Git asks the mount. What only looks writes no index."""
+    def variables(self, process: int, top: str) -> dict[str, str]:
+        """The environment in which Git asks the mount that this process shows. What only looks writes no index. The
+        folder is named by a path that is gone with the process, or Git would take all for removed that it had shown."""
         hook = f"{shlex.quote(str(SCRIPT))} fsmonitor {shlex.quote(str(self.path.parent))}"
         settings = {"core.fsmonitor": hook, "core.fsmonitorHookVersion": git_index.PROTOCOL,
-                    "core.untrackedCache": "keep", "core.sparseCheckout": "false", "core.logAllRefUpdates": "true"}
-        return {**git_index.variables(self.linked(), top, self.index, settings), "GIT_OPTIONAL_LOCKS": "0"}
+                    "core.untrackedCache": "keep", "core.sparseCheckout": "false", "core.logAllRefUpdates": "true",
+                    "core.preferSymlinkRefs": "false"}
+        return {"GIT_DIR": str(self.linked()), "GIT_WORK_TREE": f"/proc/{process}/root{top}",
+                "GIT_OPTIONAL_LOCKS": "0", **git_index.settings_as_variables(settings)}
 
-    def say(self, *words: str) -> list[bytes]:
-        """What Git says of an index of the folder, in fields that end in zero bytes. It is the one that Git names to
-        its hook, which may be another than the folder's own."""
-        index = os.environ.get("GIT_INDEX_FILE", self.index)
-        told = git_index.variables(self.path, self.top(), index, {"core.fsmonitor": "false"})
+    def say(self, *words: str, fsmonitor: str = "false", index: str | os.PathLike[str] | None = None) -> list[bytes]:
+        """What Git says of the folder's index, or of another one, in fields that end in zero bytes."""
+        told = git_index.variables(self.path, self.top(), index or self.index, {"core.fsmonitor": fsmonitor})
         return git_index.run(self.path, told, *words).split(b"\0")[:-1]
 
-    def tracked(self) -> list[bytes]:
+    def tracked(self, index: str | None = None) -> list[bytes]:
         """The paths in the index, in byte order."""
-        return self.say("ls-files", "-z")
+        return self.say("ls-files", "-z", index=index)
 
-    def otherwise(self) -> set[bytes]:
+    def otherwise(self, index: str | None = None) -> set[bytes]:
         """The paths that the index has otherwise than the tree against which changes are told."""
-        return set(self.say("diff-index", "--cached", "--name-only", "--no-renames", "-z", self.made_for()["tree"]))
+        tree = self.made_for()["tree"]
+        return set(self.say("diff-index", "--cached", "--name-only", "--no-renames", "-z", tree, index=index))
 
     def under_way(self) -> str | None:
         """What Git is in the middle of, in a word."""
-        return next((word for name, word in UNDER_WAY.items() if (self.path / name).exists()), None)
+        found = next((word for name, word in UNDER_WAY.items() if (self.path / name).exists()), None)
+        if found is None and self.made_for() and self.index.exists() and self.say("ls-files", "-uz"):
+            return "conflict"
+        return found
 
     # ---- what the folder stands on
 
-    def stands_on(self, repository: Repository, tree: str, noted: str | None) -> Stand | None:
-        """What HEAD says, where Git may work in a folder that was mounted with that tree; None where it never did.
+    def stands_on(self, repository: Repository) -> Stand | None:
+        """What HEAD says; None where there is none yet, or it says nothing, as where a disk lost it.
 
-        Where HEAD's branch isn't at the commit at which its log ends (or which the overlay's note has, where there is
-        none), it was moved from elsewhere, or was just moved from here: then the log is looked at again for a while. A
-        folder whose branch was moved from elsewhere stands where it stood, and on no branch.
+        Where HEAD's branch isn't at the commit at which HEAD's log ends, somebody moved it from elsewhere. Then the
+        folder stands where it stood, and on no branch, and HEAD says so from now on.
         """
-        made = self.made_for()
-        if (made.get("tree"), made.get("of")) != (tree, repository.common_folder):
-            return None
-        end = time.monotonic() + SECONDS_TO_LOG
-        while True:
-            head, last = self.head.read_bytes().removesuffix(b"\n"), self.last_logged() or noted
-            if not head.startswith(BRANCH):
-                return Stand(head.decode(), None)
-            branch = os.fsdecode(head.removeprefix(BRANCH))
-            if repository.commit_id(branch) in (None, last):
-                return Stand(last, branch)
-            if time.monotonic() > end:
-                return Stand(last, None)
-            time.sleep(SECONDS_BETWEEN)
+        found = self.head_says(repository)
+        if found is None or not self.was_moved(found):
+            return found
+        # Git holds HEAD from before it moves the branch until the log says so.
+        with self.head_held() as is_held:
+            found = self.head_says(repository)
+            last = self.last_logged()
+            if not is_held or found is None or last is None or not self.was_moved(found):
+                return found
+            self.write_head(last.encode() + b"\n")
+            return Stand(last, None, found.branch)
 
-    def last_logged(self) -> str | None:
-        """The commit at which HEAD's log ends."""
-        with contextlib.suppress(OSError, IndexError):
-            return self.log.read_bytes().splitlines()[-1].split()[1].decode()
+    def head_says(self, repository: Repository) -> Stand | None:
+        with contextlib.suppress(FileNotFoundError):
+            if said := HEAD.fullmatch(self.head.read_bytes()):
+                branch = os.fsdecode(said[1]) if said[1] else None
+                commit = repository.commit_id(branch or said[2].decode())
+                # What another repository had need not be here.
+                if commit or branch and self.made_for().get("of") == repository.common_folder:
+                    return Stand(commit, branch)
         return None
 
-    def stand_on(self, repository: Repository, commit: str, branch: str | None, why: str) -> None:
-        """Has HEAD say so: the branch, where it is at the commit or nowhere yet, and else the commit. The log tells it,
-        and why."""
-        is_there = branch is not None and repository.commit_id(branch) in (None, commit)
-        named = BRANCH + os.fsencode(branch or "") if is_there else commit.encode()
-        before = self.last_logged() or NO_COMMIT
-        if before != commit:
-            self.log.parent.mkdir(exist_ok=True)
-            with open(self.log, "ab") as log:
-                log.write(f"{before} {commit} ".encode() + who(repository) + f"\t{why}\n".encode())
-        if not self.head.exists() or self.head.read_bytes() != named + b"\n":
-            self.write_head(named + b"\n")
+    def was_moved(self, found: Stand) -> bool:
+        return found.branch is not None and found.commit is not None and self.last_logged() not in (None, found.commit)
+
+    def last_logged(self) -> str | None:
+        """The commit at which HEAD's log ends, as far as it is one."""
+        with contextlib.suppress(OSError, IndexError):
+            last = self.log.read_bytes().splitlines()[-1].split()[1].decode()
+            return None if last == NO_COMMIT else last
+        return None
+
+    @contextlib.contextmanager
+    def head_held(self) -> Iterator[bool]:
+        """HEAD is held as Git holds it where it moves it, or its branch; False where that can't be had."""
+        held, end = self.path / "HEAD.lock", time.monotonic() + SECONDS_HELD
+        while True:
+            with contextlib.suppress(FileExistsError):
+                open(held, "xb").close()
+                break
+            if time.monotonic() > end:
+                yield False
+                return
+            time.sleep(SECONDS_BETWEEN)
+        try:
+            yield True
+        finally:
+            held.unlink(missing_ok=True)
 
     def write_head(self, line: bytes) -> None:
-        """Writes HEAD as Git does: who else writes it meanwhile is refused."""
-        written = self.path / "HEAD.lock"
-        try:
-            with open(written, "xb") as file:
-                file.write(line)
-        except FileExistsError:
-            raise Refusal(f"Git is at work in the folder, or left {written}") from None
-        written.replace(self.head)
+        """Writes HEAD, which is held."""
+        with open(self.path / "HEAD.lock", "wb") as file:
+            file.write(line)
+            file.flush()
+            os.fsync(file.fileno())
+        (self.path / "HEAD.lock").replace(self.head)
 
-    def go_on(self, repository: Repository, commit: str) -> None:
-        """The folder stands on a commit that was just made of all that it shows. Its index is to be made anew."""
+    def begin(self, repository: Repository, commit: str, branch: str | None) -> None:
+        """The first HEAD, and its log: the branch, where it is at the commit, and else the commit."""
+        is_there = branch is not None and repository.commit_id(branch) == commit
+        with self.head_held() as is_held:
+            if not is_held:
+                raise Refusal(f"Git is at work in the folder, or left {self.path / 'HEAD.lock'}")
+            self.log.parent.mkdir(exist_ok=True)
+            self.log.write_bytes(f"{NO_COMMIT} {commit} ".encode() + who(repository) + b"\tmount-git\n")
+            self.write_head((b"ref: " + os.fsencode(branch or "") if is_there else commit.encode()) + b"\n")
+
+    def move(self, repository: Repository, branch: str, made: str, was: str, why: str) -> None:
+        """Moves the branch, where it still is where it was. Where the folder is on it, its log says so with that."""
+        here = [f"--git-dir={self.path}"] if self.made_for() else []
+        done = repository.git(*here, "update-ref", "-m", why, branch, made, was)
+        if done.returncode != 0:
+            raise Refusal(f"{branch} isn't moved{said(done.stderr)}")
+
+    def go_on(self, repository: Repository, commit: str, branch: str) -> None:
+        """The folder stands on a commit of that branch that was just made of all that it shows."""
         with self.lock():
-            head = self.head.read_bytes().removesuffix(b"\n")
-            branch = os.fsdecode(head.removeprefix(BRANCH)) if head.startswith(BRANCH) else None
-            self.index.unlink(missing_ok=True)
-            self.stand_on(repository, commit, branch, "commit: mount-git commit")
+            found = self.head_says(repository)
+            if found is None or found.branch != branch:
+                self.say("symbolic-ref", "-m", "commit: mount-git", "HEAD", branch)
+            # What is as it was in the index stays known to have been looked at.
+            self.say("read-tree", "-m", commit, fsmonitor=git_index.NOTHING_CHANGED)
 
-    def holds_at(self, top: str) -> None:
-        """Its index, and what is staged in it, holds for the folder now that it is mounted there."""
+    def hold_at(self, top: str) -> None:
+        """The index holds for the folder now that it is mounted there. Where it has no cache to be told so, Git looks
+        into all directories."""
         with contextlib.suppress(OSError, Refusal):
-            moved = git_index.moved(self.index.read_bytes(), self.top(), top)
-            written = self.path / "new"
-            written.write_bytes(moved)
-            written.replace(self.index)
-            return
-        self.index.unlink(missing_ok=True)
+            self.put("index", git_index.moved(self.index.read_bytes(), self.made_for()["top"], top))
 
     # ---- to the repository
 
     def linked(self) -> pathlib.Path:
-        """Where Git finds it, among the repository's linked working trees, of which Git forgets those whose overlay is
-        gone. Where these can't be written Git finds it here, and makes no objects that would have to be kept."""
-        trees = pathlib.Path(os.path.realpath(self.made_for()["of"]), "worktrees")
+        """Where Git finds it, among the repository's linked working trees. Where these can't be written Git finds it
+        here, and makes no objects that would have to be kept."""
+        of = os.path.realpath(self.made_for()["of"])
+        trees = pathlib.Path(of, "worktrees")
         link = trees / f"{LINK}{hashlib.sha256(os.fsencode(self.path)).hexdigest()[:16]}"
         # By this name Git knows that the working tree is there.
         there = self.path / ".git"
         with contextlib.suppress(OSError):
             there.mkdir(exist_ok=True)
-            (self.path / "gitdir").write_bytes(os.fsencode(there) + b"\n")
+            self.put("locked", b"a mount of mount-git\n")
+            self.put("gitdir", os.fsencode(there) + b"\n")
             trees.mkdir(exist_ok=True)
-            for other in trees.glob(f"{LINK}*"):
-                if not other.exists():
-                    other.unlink()
             if not link.is_symlink():
                 link.symlink_to(self.path)
-        return link if link.exists() else self.path
+        for other in trees.glob(f"{LINK}*"):
+            with contextlib.suppress(OSError):
+                if not other.exists() and other.lstat().st_mtime < time.time() - SECONDS_KEPT:
+                    other.unlink()
+        if link.exists():
+            return link
+        if os.access(os.path.join(of, "objects"), os.W_OK):
+            tell(f"{trees} can't be written: git gc won't know what Git makes here")
+        return self.path
 
 
 def who(repository: Repository) -> bytes:
@@ -214,29 +270,41 @@ def who(repository: Repository) -> bytes:
 
 def folder_for_git(about: Fields, top: str) -> GitFolder:
     """The folder of a mount, made where it isn't there."""
-    if about["commit"] is None:
-        raise Refusal("the folder shows a tree, and isn't known to stand on a commit")
     repository, folder = Repository(about["repository"]), GitFolder(about["overlay"])
+    if repository.settings(r"^extensions\.refstorage$"):
+        raise Refusal("the repository keeps its branches in another form than files")
     folder.path.mkdir(exist_ok=True)
     made = {"top": top, "tree": about["tree"], "of": repository.common_folder}
     with folder.lock():
-        (folder.path / "commondir").write_bytes(os.fsencode(repository.common_folder) + b"\n")
-        folder.stand_on(repository, about["commit"], about["branch"], f"mount-git: {top}")
         before = folder.made_for()
-        if before != made:
-            if {**before, "top": top} == made:
-                folder.holds_at(top)
-            else:
-                folder.index.unlink(missing_ok=True)
-            folder.made.write_text(json.dumps(made))
+        is_new = before.get("tree") != about["tree"]
+        if is_new:
+            folder.index.unlink(missing_ok=True)
+        if is_new or folder.stands_on(repository) is None:
+            folder.begin(repository, base_in(about), about["branch"])
+        folder.put("commondir", os.fsencode(repository.common_folder) + b"\n")
         if not folder.index.exists():
-            make(folder, repository, top, about["tree"], about["commit"])
+            folder.put("made", json.dumps(made).encode())
+            make(folder, repository, top, about["tree"], base_in(about))
+        elif before != made:
+            folder.hold_at(top)
+            folder.put("made", json.dumps(made).encode())
     return folder
+
+
+def base_in(about: Fields) -> str:
+    """The commit that the folder stands on."""
+    if about["commit"] is None and about["branch"] is not None:
+        raise Refusal(f"{about['branch']} has no commit yet: make its first by `mount-git git`")
+    if about["commit"] is None:
+        raise Refusal("the folder shows a tree, and isn't known to stand on a commit")
+    found: str = about["commit"]
+    return found
 
 
 def make(folder: GitFolder, repository: Repository, top: str, tree: str, commit: str) -> None:
     """Writes the index of a commit, and what of it differs from the tree that `changes` are told against."""
-    index = folder.path / "new"
+    index = folder.path / "index.new"
     git_index.write_index(folder.path, index, repository, top, commit)
     differing = repository.git("diff-tree", "-r", "-z", "--no-renames", "--name-only", tree, commit)
     if differing.returncode != 0:

@@ -30,14 +30,19 @@ IGNORE = b".gitignore"
 FILES = {b"100644", b"100755"}
 
 
-def variables(git_folder: str | os.PathLike[str], top: str, index: str | os.PathLike[str],
-              settings: Mapping[str, str]) -> dict[str, str]:
-    """The environment by which Git has that index of the folder `top`, and leaves the repository's own alone."""
-    found = {"GIT_DIR": os.fspath(git_folder), "GIT_WORK_TREE": top, "GIT_INDEX_FILE": os.fspath(index),
-             "GIT_NO_REPLACE_OBJECTS": "1", "GIT_CONFIG_COUNT": str(len(settings))}
+def settings_as_variables(settings: Mapping[str, str]) -> dict[str, str]:
+    """The environment by which Git has these settings."""
+    found = {"GIT_CONFIG_COUNT": str(len(settings))}
     for number, (name, value) in enumerate(settings.items()):
         found |= {f"GIT_CONFIG_KEY_{number}": name, f"GIT_CONFIG_VALUE_{number}": value}
     return found
+
+
+def variables(git_folder: str | os.PathLike[str], top: str, index: str | os.PathLike[str],
+              settings: Mapping[str, str]) -> dict[str, str]:
+    """The environment by which Git has that index of the folder `top`, and leaves the repository's own alone."""
+    return {"GIT_DIR": os.fspath(git_folder), "GIT_WORK_TREE": top, "GIT_INDEX_FILE": os.fspath(index),
+            "GIT_NO_REPLACE_OBJECTS": "1", **settings_as_variables(settings)}
 
 
 def run(at: pathlib.Path, told: Mapping[str, str], *words: str, data: bytes = b"") -> bytes:

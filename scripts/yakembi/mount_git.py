@@ -212,20 +212,27 @@ class Asked:
         return noted
 
     def about(self, fields: Fields, folder: pathlib.Path) -> Fields:
-        """The repository, the overlay, the tree that changes are told against, and the commit and the branch that the
-        folder stands on. Where Git worked in the folder, its HEAD says these, and the note follows it."""
-        noted = self.noted()
-        stand = self.git.stands_on(self.repository, noted.tree, noted.commit) or Stand(noted.commit, self.branch)
-        self.overlay.write_note(noted._replace(commit=stand.commit))
-        return {"repository": os.path.abspath(self.repository.path), "overlay": self.overlay.path, "tree": noted.tree,
-                "commit": stand.commit, "branch": stand.branch}
+        """The process that shows the folder, the repository, the overlay, the tree that changes are told against, and
+        what the folder stands on."""
+        stand = self.stand()
+        return {"process": os.getpid(), "repository": os.path.abspath(self.repository.path),
+                "overlay": self.overlay.path, "tree": self.noted().tree, **stand._asdict()}
+
+    def stand(self) -> Stand:
+        """What the folder stands on. Where Git worked in it, its HEAD says that, and the note follows."""
+        noted, found = self.noted(), None
+        if self.git.made_for().get("tree") == noted.tree:
+            found = self.git.stands_on(self.repository)
+        if found is not None and found.commit is not None:
+            self.overlay.write_note(noted._replace(commit=found.commit))
+        return found or Stand(noted.commit, self.branch)
 
     def changes(self, fields: Fields, folder: pathlib.Path) -> Fields:
-        """A file with the lines of what was changed. The folder may be in use."""
+        """A file with the lines of what was changed, the overlay, and what the folder stands on. It may be in use."""
         told = folder / "changes"
         with open(told, "wb") as lines:
             self.below.while_still(lambda: self.run(lines, "changes", "--running"))
-        return {"lines": str(told)}
+        return {"lines": str(told), "overlay": self.overlay.path, **self.stand()._asdict()}
 
     def snapshot(self, fields: Fields, folder: pathlib.Path) -> Fields:
         """The tree that is shown, the folder with its own objects, and what is left out of it."""
@@ -244,11 +251,13 @@ class Asked:
         return done
 
     def committed(self, fields: Fields, folder: pathlib.Path) -> Fields:
-        """The next commit is put on that one."""
-        commit = control.text_of(fields, "commit")
-        self.overlay.write_note(self.noted()._replace(commit=commit))
-        if self.git.made_for():
-            self.git.go_on(self.repository, commit)
+        """The next commit is put on that one, on that branch."""
+        commit, branch = control.text_of(fields, "commit"), control.text_of(fields, "branch")
+        noted = self.noted()
+        self.overlay.write_note(noted._replace(commit=commit))
+        self.branch = branch
+        if self.git.made_for().get("tree") == noted.tree:
+            self.git.go_on(self.repository, commit, branch)
         return {}
 
 

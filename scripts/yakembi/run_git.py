@@ -16,7 +16,7 @@ import subprocess
 import sys
 from collections.abc import Callable, Iterable, Iterator
 
-from yakembi.control import Connection
+from yakembi.control import Connection, Fields, tell
 from yakembi.folder_changes import Change, changes_in
 from yakembi.git import Refusal
 from yakembi.git_folder import GitFolder, folder_for_git
@@ -30,7 +30,8 @@ ANYTHING = b"/-"
 def git(words: argparse.Namespace) -> None:
     with contextlib.closing(Connection(words.folder)) as mount:
         about, top = mount.ask("about"), mount.top
-        variables = folder_for_git(about, top).variables(top)
+        tell_of_left(about)
+        variables = folder_for_git(about, top).variables(about["process"], top)
     if words.environment:
         for name, value in variables.items():
             print(f"export {name}={shlex.quote(value)}")
@@ -38,6 +39,12 @@ def git(words: argparse.Namespace) -> None:
     environment = {**of_no_repository(), **variables}
     os.chdir(words.folder)
     os.execvpe("git", ["git", *words.words], environment)
+
+
+def tell_of_left(stand: Fields) -> None:
+    """Tells that the folder isn't on the branch any more that somebody moved from elsewhere."""
+    if stand["left"] is not None:
+        tell(f"{stand['left']} was moved from elsewhere: the folder stands on {stand['commit']}, and on no branch")
 
 
 def of_no_repository() -> dict[str, str]:
@@ -56,8 +63,18 @@ def fsmonitor(words: argparse.Namespace) -> None:
     if words.version != PROTOCOL:
         raise Refusal(f"the hook's protocol is version {PROTOCOL}, and not {words.version}")
     folder = GitFolder(words.overlay)
-    with contextlib.closing(Connection(folder.top())) as mount, open(mount.ask("changes")["lines"], "rb") as told:
-        paths = to_look_at(changes_in(told), folder.tracked) | folder.otherwise()
+    top = folder.top()
+    if os.path.realpath(os.getcwd()) != top:
+        raise Refusal(f"Git looks at {os.getcwd()}, and the mounted folder is {top}")
+    with contextlib.closing(Connection(top)) as mount:
+        told = mount.ask("changes")
+        if os.path.realpath(told["overlay"]) != os.path.realpath(words.overlay):
+            raise Refusal(f"{top} shows another overlay than {words.overlay}")
+        tell_of_left(told)
+        # Git may look by another index than the folder's own, as it does for a commit of some paths.
+        index = os.environ.get("GIT_INDEX_FILE")
+        with open(told["lines"], "rb") as lines:
+            paths = to_look_at(changes_in(lines), lambda: folder.tracked(index)) | folder.otherwise(index)
     sys.stdout.buffer.write(b"".join(field + b"\0" for field in (TOKEN, *sorted(folder.tell(paths)))))
     sys.stdout.flush()
 
