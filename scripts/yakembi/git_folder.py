@@ -4,7 +4,7 @@ It is to Git what the folder of a linked working tree is: `commondir` names the 
 folder stands on, `logs/HEAD` how that went, and `index` has each path of that commit, or what Git made of it. So Git's
 own commands commit, switch and merge in it. Git looks at those paths alone that its hook for fsmonitor names; `told`
 has the paths that the hook named ever: what was changed back has to be looked at once more. `made` says for which mount
-it is.
+it is, and `seen` what HEAD said when it was last looked at.
 
 The repository has it among its linked working trees (`worktrees`), by a link: so `git gc` keeps what its index and its
 log name, and Git lets nobody take the branch away on which it is. It is a locked one, or Git would tidy it up through
@@ -58,7 +58,7 @@ class GitFolder:
     def __init__(self, overlay: str | os.PathLike[str]) -> None:
         self.path = pathlib.Path(os.path.realpath(overlay), "git")
         self.index, self.told, self.made, self.head = (self.path / name for name in ("index", "told", "made", "HEAD"))
-        self.log = self.path / "logs/HEAD"
+        self.log, self.seen = self.path / "logs/HEAD", self.path / "seen"
 
     @contextlib.contextmanager
     def lock(self) -> Iterator[None]:
@@ -82,11 +82,7 @@ class GitFolder:
     def made_for(self) -> dict[str, str]:
         """The mount that it is for: `top`, the mounted folder, `tree`, against which changes are told, and `of`, the
         repository. Nothing, where it was never made."""
-        with contextlib.suppress(OSError, ValueError):
-            found = json.loads(self.made.read_text())
-            if isinstance(found, dict):
-                return {str(name): str(value) for name, value in found.items()}
-        return {}
+        return {name: str(value) for name, value in fields_of(self.made).items()}
 
     def top(self) -> str:
         """The mounted folder."""
@@ -146,16 +142,16 @@ class GitFolder:
         folder stands where it stood, and on no branch, and HEAD says so from now on.
         """
         found = self.head_says(repository)
-        if found is None or not self.was_moved(found):
-            return found
-        # Git holds HEAD from before it moves the branch until the log says so.
-        with self.head_held() as is_held:
-            found = self.head_says(repository)
-            last = self.last_logged()
-            if not is_held or found is None or last is None or not self.was_moved(found):
-                return found
-            self.write_head(last.encode() + b"\n")
-            return Stand(last, None, found.branch)
+        if found is not None and self.was_moved(found):
+            # Git holds HEAD from before it moves the branch until the log says so.
+            with self.head_held() as is_held:
+                found, last = self.head_says(repository), self.last_logged()
+                if is_held and found is not None and last is not None and self.was_moved(found):
+                    self.write_head(last.encode() + b"\n")
+                    found = Stand(last, None, found.branch)
+        if found is not None:
+            self.put("seen", json.dumps([found.commit, found.branch, *self.log_is()]).encode())
+        return found
 
     def head_says(self, repository: Repository) -> Stand | None:
         with contextlib.suppress(FileNotFoundError):
@@ -168,7 +164,22 @@ class GitFolder:
         return None
 
     def was_moved(self, found: Stand) -> bool:
-        return found.branch is not None and found.commit is not None and self.last_logged() not in (None, found.commit)
+        """Whether HEAD's branch was moved from elsewhere since it was looked at. A log that Git has cut since then says
+        nothing of that."""
+        if found.branch is None or found.commit is None or self.last_logged() in (None, found.commit):
+            return False
+        with contextlib.suppress(OSError, ValueError):
+            commit, branch, number, length = json.loads(self.seen.read_bytes())
+            now, longer = self.log_is()
+            return (commit, branch) != found[:2] and now == number and longer >= length
+        return True
+
+    def log_is(self) -> tuple[int, int]:
+        """Which file HEAD's log is, and how long: one that is cut is another one."""
+        with contextlib.suppress(FileNotFoundError):
+            found = self.log.stat()
+            return found.st_ino, found.st_size
+        return 0, 0
 
     def last_logged(self) -> str | None:
         """The commit at which HEAD's log ends, as far as it is one."""
@@ -202,8 +213,22 @@ class GitFolder:
             os.fsync(file.fileno())
         (self.path / "HEAD.lock").replace(self.head)
 
+    def adopt(self, repository: Repository) -> None:
+        """It is of this repository, which may have been moved, or be another one: what HEAD says stays if that has it.
+        """
+        made = self.made_for()
+        if made.get("of") == repository.common_folder:
+            return
+        with self.lock():
+            if self.head_says(repository) is None:
+                self.head.unlink(missing_ok=True)
+            self.put("commondir", os.fsencode(repository.common_folder) + b"\n")
+            self.put("made", json.dumps({**made, "of": repository.common_folder}).encode())
+
     def begin(self, repository: Repository, commit: str, branch: str | None) -> None:
         """The first HEAD, and its log: the branch, where it is at the commit, and else the commit."""
+        if repository.settings(r"^extensions\.refstorage$"):
+            raise Refusal("the repository keeps its branches in another form than files")
         is_there = branch is not None and repository.commit_id(branch) == commit
         with self.head_held() as is_held:
             if not is_held:
@@ -214,7 +239,7 @@ class GitFolder:
 
     def move(self, repository: Repository, branch: str, made: str, was: str, why: str) -> None:
         """Moves the branch, where it still is where it was. Where the folder is on it, its log says so with that."""
-        here = [f"--git-dir={self.path}"] if self.made_for() else []
+        here = [f"--git-dir={self.path}"] if self.head_says(repository) else []
         done = repository.git(*here, "update-ref", "-m", why, branch, made, was)
         if done.returncode != 0:
             raise Refusal(f"{branch} isn't moved{said(done.stderr)}")
@@ -236,12 +261,20 @@ class GitFolder:
 
     # ---- to the repository
 
+    def link(self) -> pathlib.Path:
+        name = f"{LINK}{hashlib.sha256(os.fsencode(self.path)).hexdigest()[:16]}"
+        return pathlib.Path(os.path.realpath(self.made_for()["of"]), "worktrees", name)
+
+    def unlink(self) -> None:
+        """The repository forgets it, where it knew it: it goes with a temporary overlay."""
+        with contextlib.suppress(OSError, KeyError):
+            self.link().unlink()
+
     def linked(self) -> pathlib.Path:
         """Where Git finds it, among the repository's linked working trees. Where these can't be written Git finds it
         here, and makes no objects that would have to be kept."""
-        of = os.path.realpath(self.made_for()["of"])
-        trees = pathlib.Path(of, "worktrees")
-        link = trees / f"{LINK}{hashlib.sha256(os.fsencode(self.path)).hexdigest()[:16]}"
+        link = self.link()
+        trees = link.parent
         # By this name Git knows that the working tree is there.
         there = self.path / ".git"
         with contextlib.suppress(OSError):
@@ -257,9 +290,18 @@ class GitFolder:
                     other.unlink()
         if link.exists():
             return link
-        if os.access(os.path.join(of, "objects"), os.W_OK):
+        if os.access(trees.parent / "objects", os.W_OK):
             tell(f"{trees} can't be written: git gc won't know what Git makes here")
         return self.path
+
+
+def fields_of(file: pathlib.Path) -> Fields:
+    """The fields of a file that we wrote; none where it isn't there, or isn't whole."""
+    with contextlib.suppress(OSError, ValueError):
+        found = json.loads(file.read_bytes())
+        if isinstance(found, dict):
+            return found
+    return {}
 
 
 def who(repository: Repository) -> bytes:
@@ -271,8 +313,6 @@ def who(repository: Repository) -> bytes:
 def folder_for_git(about: Fields, top: str) -> GitFolder:
     """The folder of a mount, made where it isn't there."""
     repository, folder = Repository(about["repository"]), GitFolder(about["overlay"])
-    if repository.settings(r"^extensions\.refstorage$"):
-        raise Refusal("the repository keeps its branches in another form than files")
     folder.path.mkdir(exist_ok=True)
     made = {"top": top, "tree": about["tree"], "of": repository.common_folder}
     with folder.lock():
@@ -280,7 +320,7 @@ def folder_for_git(about: Fields, top: str) -> GitFolder:
         is_new = before.get("tree") != about["tree"]
         if is_new:
             folder.index.unlink(missing_ok=True)
-        if is_new or folder.stands_on(repository) is None:
+        if is_new or folder.head_says(repository) is None:
             folder.begin(repository, base_in(about), about["branch"])
         folder.put("commondir", os.fsencode(repository.common_folder) + b"\n")
         if not folder.index.exists():

@@ -105,6 +105,7 @@ def overlay_at(path: str | None) -> Iterator[OverlayFolder]:
     with contextlib.ExitStack() as stack:
         if path is None:
             path = stack.enter_context(tempfile.TemporaryDirectory(prefix="mount-git."))
+            stack.callback(GitFolder(path).unlink)
         try:
             overlay = OverlayFolder(path)
         except InUse:
@@ -221,11 +222,16 @@ class Asked:
     def stand(self) -> Stand:
         """What the folder stands on. Where Git worked in it, its HEAD says that, and the note follows."""
         noted, found = self.noted(), None
-        if self.git.made_for().get("tree") == noted.tree:
+        if self.is_git_at(noted.tree):
+            self.git.adopt(self.repository)
             found = self.git.stands_on(self.repository)
         if found is not None and found.commit is not None:
             self.overlay.write_note(noted._replace(commit=found.commit))
         return found or Stand(noted.commit, self.branch)
+
+    def is_git_at(self, tree: str) -> bool:
+        """Whether Git worked in the folder, with that tree mounted."""
+        return self.git.made_for().get("tree") == tree
 
     def changes(self, fields: Fields, folder: pathlib.Path) -> Fields:
         """A file with the lines of what was changed, the overlay, and what the folder stands on. It may be in use."""
@@ -256,7 +262,7 @@ class Asked:
         noted = self.noted()
         self.overlay.write_note(noted._replace(commit=commit))
         self.branch = branch
-        if self.git.made_for().get("tree") == noted.tree:
+        if self.is_git_at(noted.tree):
             self.git.go_on(self.repository, commit, branch)
         return {}
 

@@ -65,7 +65,8 @@ def fsmonitor(words: argparse.Namespace) -> None:
     folder = GitFolder(words.overlay)
     top = folder.top()
     if os.path.realpath(os.getcwd()) != top:
-        raise Refusal(f"Git looks at {os.getcwd()}, and the mounted folder is {top}")
+        # Git hands its settings to the one that it runs in a submodule or in another working tree.
+        sys.exit(1)
     with contextlib.closing(Connection(top)) as mount:
         told = mount.ask("changes")
         if os.path.realpath(told["overlay"]) != os.path.realpath(words.overlay):
