@@ -114,7 +114,8 @@ class GitFolder:
 
     def say(self, *words: str, fsmonitor: str = "false", index: str | os.PathLike[str] | None = None) -> list[bytes]:
         """What Git says of the folder's index, or of another one, in fields that end in zero bytes."""
-        told = git_index.variables(self.path, self.top(), index or self.index, {"core.fsmonitor": fsmonitor})
+        top = self.made_for()["top"]
+        told = git_index.variables(self.path, top, index or self.index, {"core.fsmonitor": fsmonitor})
         return git_index.run(self.path, told, *words).split(b"\0")[:-1]
 
     def tracked(self, index: str | None = None) -> list[bytes]:
@@ -146,7 +147,9 @@ class GitFolder:
             # Git holds HEAD from before it moves the branch until the log says so.
             with self.head_held() as is_held:
                 found, last = self.head_says(repository), self.last_logged()
-                if is_held and found is not None and last is not None and self.was_moved(found):
+                if found is not None and last is not None and self.was_moved(found):
+                    if not is_held:
+                        return found
                     self.write_head(last.encode() + b"\n")
                     found = Stand(last, None, found.branch)
         if found is not None:
@@ -154,10 +157,11 @@ class GitFolder:
         return found
 
     def head_says(self, repository: Repository) -> Stand | None:
+        """What HEAD says, as `stands_on` has it, whoever moved the branch."""
         with contextlib.suppress(FileNotFoundError):
-            if said := HEAD.fullmatch(self.head.read_bytes()):
-                branch = os.fsdecode(said[1]) if said[1] else None
-                commit = repository.commit_id(branch or said[2].decode())
+            if named := HEAD.fullmatch(self.head.read_bytes()):
+                branch = os.fsdecode(named[1]) if named[1] else None
+                commit = repository.commit_id(branch or named[2].decode())
                 # What another repository had need not be here.
                 if commit or branch and self.made_for().get("of") == repository.common_folder:
                     return Stand(commit, branch)
@@ -251,7 +255,8 @@ class GitFolder:
             if found is None or found.branch != branch:
                 self.say("symbolic-ref", "-m", "commit: mount-git", "HEAD", branch)
             # What is as it was in the index stays known to have been looked at.
-            self.say("read-tree", "-m", commit, fsmonitor=git_index.NOTHING_CHANGED)
+            if self.index.exists():
+                self.say("read-tree", "-m", commit, fsmonitor=git_index.NOTHING_CHANGED)
 
     def hold_at(self, top: str) -> None:
         """The index holds for the folder now that it is mounted there. Where it has no cache to be told so, Git looks
