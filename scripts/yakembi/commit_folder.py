@@ -13,11 +13,11 @@ import pathlib
 import re
 import subprocess
 import tempfile
-from collections.abc import Iterator
+from collections.abc import Iterator, Sequence
 
 from yakembi.control import Connection, Fields, said_of, tell
-from yakembi.git import Refusal, Repository, environment, said
-from yakembi.git_folder import NO_COMMIT, GitFolder, base_in
+from yakembi.git import Refusal, Repository, entries, environment, said
+from yakembi.git_folder import NO_COMMIT, GitFolder, base_in, tell_of_left
 from yakembi.packs import objects_in, write_pack
 
 # Up to so many objects become a file each, as `git receive-pack` does it by itself; more become one pack.
@@ -28,25 +28,47 @@ SIGNING = re.compile(r"GIT_(AUTHOR|COMMITTER)_(NAME|EMAIL|DATE)")
 
 def commit(words: argparse.Namespace) -> None:
     with contextlib.closing(Connection(words.folder)) as mount:
+        # Until all is done Git commits nothing in the folder, nor puts anything into its index.
         about = mount.ask("about")
-        repository, folder = Repository(about["repository"]), GitFolder(about["overlay"])
-        base = base_in(about)
-        branch = branch_of(repository, words.branch, about)
-        was = place_of(repository, branch, base)
-        if under_way := folder.under_way():
-            raise Refusal(f"Git is in the middle of a {under_way} in the folder: end that first, by `mount-git git`")
-        taken = mount.ask("snapshot")
-        for line in taken["left_out"]:
-            tell(line)
-        if taken["tree"] == repository.tree_of(base):
-            raise Refusal("nothing is changed since the commit that the folder stands on")
-        put(repository, objects_in(pathlib.Path(taken["folder"])))
-        made = committed(repository, taken["tree"], base, words.message)
-        with said_behind(f"the commit {made} is made, but"):
-            folder.move(repository, branch, made, was, f"commit: {next(iter(words.message.splitlines()), '')}")
-        with said_behind(f"{branch} is moved to the commit {made}, but the mount doesn't know all of that:"):
-            mount.ask("committed", commit=made, branch=branch)
-    print(f"{made} {branch}", flush=True)
+        tell_of_left(about)
+        with GitFolder(about["overlay"]).index_held():
+            print(" ".join(committed_by(mount, words)), flush=True)
+
+
+def committed_by(mount: Connection, words: argparse.Namespace) -> tuple[str, str]:
+    """The commit that is made, and its branch."""
+    about = mount.ask("about")
+    repository, folder = Repository(about["repository"]), GitFolder(about["overlay"])
+    base = base_in(about)
+    branch = branch_of(repository, words.branch, about)
+    was = place_of(repository, branch, base)
+    if under_way := folder.under_way():
+        raise Refusal(f"Git is in the middle of a {under_way} in the folder: end that first, by `mount-git git`")
+    taken = mount.ask("snapshot")
+    for line in taken["left_out"]:
+        tell(line)
+    if taken["tree"] == repository.tree_of(base):
+        raise Refusal("nothing is changed since the commit that the folder stands on")
+    objects = objects_in(pathlib.Path(taken["folder"]))
+    check_names(objects)
+    put(repository, objects)
+    made = committed(repository, taken["tree"], base, words.message)
+    with said_behind(f"the commit {made} is made, but"):
+        folder.move(repository, branch, made, was, f"commit: {next(iter(words.message.splitlines()), '')}")
+    with said_behind(f"{branch} is moved to the commit {made}, but the mount doesn't know all of that:"):
+        mount.ask("committed", commit=made, branch=branch)
+    return made, branch
+
+
+def check_names(objects: Sequence[pathlib.Path]) -> None:
+    """A Refusal, where a tree among the framed objects has a name that Git takes from no commit."""
+    for place in objects:
+        with open(place, "rb") as file:
+            if file.read(5) == b"tree ":
+                names = {name.lower() for _, name, _ in entries(place.name, file.read().partition(b"\0")[2])}
+                if b".git" in names:
+                    raise Refusal("a directory in the folder has a .git, which no commit may have: "
+                                  "commit by `mount-git git`, or remove it")
 
 
 @contextlib.contextmanager

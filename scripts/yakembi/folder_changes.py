@@ -15,6 +15,7 @@ from typing import NamedTuple
 from urllib.parse import unquote_to_bytes
 
 from yakembi.control import Connection
+from yakembi.git_folder import tell_of_left
 
 # How each byte stands in a quoted path (Git's `quote_c_style`).
 ESCAPES = {7: "\\a", 8: "\\b", 9: "\\t", 10: "\\n", 11: "\\v", 12: "\\f", 13: "\\r", 34: '\\"', 92: "\\\\"}
@@ -51,6 +52,7 @@ def quoted(path: bytes) -> str:
 def changes(words: argparse.Namespace) -> None:
     with contextlib.closing(Connection(words.folder)) as mount:
         told = mount.ask("changes")
+        tell_of_left(told)
         with open(told["lines"], "rb") as lines:
             for change in changes_in(lines):
                 sys.stdout.buffer.write(printed(change, words.null))

@@ -18,6 +18,7 @@ import json
 import os
 import pathlib
 import re
+import secrets
 import shlex
 import time
 from collections.abc import Iterator
@@ -118,14 +119,14 @@ class GitFolder:
         told = git_index.variables(self.path, top, index or self.index, {"core.fsmonitor": fsmonitor})
         return git_index.run(self.path, told, *words).split(b"\0")[:-1]
 
-    def tracked(self, index: str | None = None) -> list[bytes]:
+    def tracked(self) -> list[bytes]:
         """The paths in the index, in byte order."""
-        return self.say("ls-files", "-z", index=index)
+        return self.say("ls-files", "-z")
 
-    def otherwise(self, index: str | None = None) -> set[bytes]:
-        """The paths that the index has otherwise than the tree against which changes are told."""
-        tree = self.made_for()["tree"]
-        return set(self.say("diff-index", "--cached", "--name-only", "--no-renames", "-z", tree, index=index))
+    def otherwise(self, *which: str, index: str | None = None) -> set[bytes]:
+        """The paths that the index has otherwise than the tree against which changes are told, or another index."""
+        words = ["diff-index", "--cached", "--name-only", "--no-renames", "-z", *which, self.made_for()["tree"]]
+        return set(self.say(*words, index=index))
 
     def under_way(self) -> str | None:
         """What Git is in the middle of, in a word."""
@@ -139,21 +140,20 @@ class GitFolder:
     def stands_on(self, repository: Repository) -> Stand | None:
         """What HEAD says; None where there is none yet, or it says nothing, as where a disk lost it.
 
-        Where HEAD's branch isn't at the commit at which HEAD's log ends, somebody moved it from elsewhere. Then the
-        folder stands where it stood, and on no branch, and HEAD says so from now on.
+        Where HEAD's branch was moved from elsewhere, the folder stands where it stood, and on no branch, and HEAD says
+        so from now on. A Refusal, where that can't be said, since Git holds HEAD.
         """
         found = self.head_says(repository)
-        if found is not None and self.was_moved(found):
+        if found is not None and self.stood_on(found):
             # Git holds HEAD from before it moves the branch until the log says so.
-            with self.head_held() as is_held:
-                found, last = self.head_says(repository), self.last_logged()
-                if found is not None and last is not None and self.was_moved(found):
-                    if not is_held:
-                        return found
-                    self.write_head(last.encode() + b"\n")
-                    found = Stand(last, None, found.branch)
+            with self.head_held():
+                found = self.head_says(repository)
+                stood = self.stood_on(found) if found is not None else None
+                if found is not None and stood is not None and repository.commit_id(stood) is not None:
+                    self.write_head(stood.encode() + b"\n")
+                    found = Stand(stood, None, found.branch)
         if found is not None:
-            self.put("seen", json.dumps([found.commit, found.branch, *self.log_is()]).encode())
+            self.put("seen", json.dumps([found.commit, found.branch, self.logged()[-1:]]).encode())
         return found
 
     def head_says(self, repository: Repository) -> Stand | None:
@@ -167,55 +167,59 @@ class GitFolder:
                     return Stand(commit, branch)
         return None
 
-    def was_moved(self, found: Stand) -> bool:
-        """Whether HEAD's branch was moved from elsewhere since it was looked at. A log that Git has cut since then says
-        nothing of that."""
-        if found.branch is None or found.commit is None or self.last_logged() in (None, found.commit):
-            return False
-        with contextlib.suppress(OSError, ValueError):
-            commit, branch, number, length = json.loads(self.seen.read_bytes())
-            now, longer = self.log_is()
-            return (commit, branch) != found[:2] and now == number and longer >= length
-        return True
+    def stood_on(self, found: Stand) -> str | None:
+        """The commit that the folder stood on, where HEAD's branch was moved from elsewhere since HEAD was looked at;
+        None where it wasn't.
 
-    def log_is(self) -> tuple[int, int]:
-        """Which file HEAD's log is, and how long: one that is cut is another one."""
-        with contextlib.suppress(FileNotFoundError):
-            found = self.log.stat()
-            return found.st_ino, found.st_size
-        return 0, 0
+        HEAD's log tells what was done here. Git cuts it now and then, so what was seen at the last look counts too.
+        """
+        lines = self.logged()
+        last = lines[-1].split()[0] if lines else None
+        if found.branch is None or found.commit in (None, last):
+            return None
+        try:
+            commit, branch, seen = json.loads(self.seen.read_bytes())
+        except (OSError, ValueError):
+            return last
+        is_logged_since = bool(seen) and seen[0] in lines[:-1]
+        if (commit, branch) == (found.commit, found.branch) and not is_logged_since:
+            return None
+        return last if is_logged_since else commit
 
-    def last_logged(self) -> str | None:
-        """The commit at which HEAD's log ends, as far as it is one."""
-        with contextlib.suppress(OSError, IndexError):
-            last = self.log.read_bytes().splitlines()[-1].split()[1].decode()
-            return None if last == NO_COMMIT else last
-        return None
+    def logged(self) -> list[str]:
+        """The lines of HEAD's log, from the commit on to which each leads, but those that lead to none. What stands
+        before that Git writes anew where it takes lines out."""
+        with contextlib.suppress(OSError):
+            lines = [line.partition(b" ")[2].strip() for line in self.log.read_bytes().splitlines()]
+            return [os.fsdecode(line) for line in lines if line and not line.startswith(NO_COMMIT.encode())]
+        return []
 
     @contextlib.contextmanager
-    def head_held(self) -> Iterator[bool]:
-        """HEAD is held as Git holds it where it moves it, or its branch; False where that can't be had."""
-        held, end = self.path / "HEAD.lock", time.monotonic() + SECONDS_HELD
+    def held(self, name: str) -> Iterator[None]:
+        """That file is held as Git holds what it writes. A Refusal, where somebody else holds it for long."""
+        lock, end = self.path / f"{name}.lock", time.monotonic() + SECONDS_HELD
         while True:
             with contextlib.suppress(FileExistsError):
-                open(held, "xb").close()
+                open(lock, "xb").close()
                 break
             if time.monotonic() > end:
-                yield False
-                return
+                raise Refusal(f"Git is at work in the folder, or left {lock}")
             time.sleep(SECONDS_BETWEEN)
         try:
-            yield True
+            yield
         finally:
-            held.unlink(missing_ok=True)
+            lock.unlink(missing_ok=True)
+
+    def head_held(self) -> contextlib.AbstractContextManager[None]:
+        return self.held("HEAD")
 
     def write_head(self, line: bytes) -> None:
-        """Writes HEAD, which is held."""
-        with open(self.path / "HEAD.lock", "wb") as file:
+        """Writes HEAD, which is held, and waits for the disk as Git does."""
+        with open(self.path / "HEAD.new", "wb") as file:
             file.write(line)
             file.flush()
             os.fsync(file.fileno())
-        (self.path / "HEAD.lock").replace(self.head)
+        (self.path / "HEAD.new").replace(self.head)
 
     def adopt(self, repository: Repository) -> None:
         """It is of this repository, which may have been moved, or be another one: what HEAD says stays if that has it.
@@ -223,6 +227,7 @@ class GitFolder:
         made = self.made_for()
         if made.get("of") == repository.common_folder:
             return
+        self.unlink()
         with self.lock():
             if self.head_says(repository) is None:
                 self.head.unlink(missing_ok=True)
@@ -234,9 +239,7 @@ class GitFolder:
         if repository.settings(r"^extensions\.refstorage$"):
             raise Refusal("the repository keeps its branches in another form than files")
         is_there = branch is not None and repository.commit_id(branch) == commit
-        with self.head_held() as is_held:
-            if not is_held:
-                raise Refusal(f"Git is at work in the folder, or left {self.path / 'HEAD.lock'}")
+        with self.head_held():
             self.log.parent.mkdir(exist_ok=True)
             self.log.write_bytes(f"{NO_COMMIT} {commit} ".encode() + who(repository) + b"\tmount-git\n")
             self.write_head((b"ref: " + os.fsencode(branch or "") if is_there else commit.encode()) + b"\n")
@@ -248,15 +251,28 @@ class GitFolder:
         if done.returncode != 0:
             raise Refusal(f"{branch} isn't moved{said(done.stderr)}")
 
+    @contextlib.contextmanager
+    def index_held(self) -> Iterator[None]:
+        """Git stages and commits nothing in the folder, where it ever did."""
+        with self.held("index") if self.index.exists() else contextlib.nullcontext():
+            yield
+
     def go_on(self, repository: Repository, commit: str, branch: str) -> None:
-        """The folder stands on a commit of that branch that was just made of all that it shows."""
+        """The folder stands on a commit of that branch that was just made of all that it shows. The index is held."""
         with self.lock():
             found = self.head_says(repository)
             if found is None or found.branch != branch:
                 self.say("symbolic-ref", "-m", "commit: mount-git", "HEAD", branch)
-            # What is as it was in the index stays known to have been looked at.
             if self.index.exists():
-                self.say("read-tree", "-m", commit, fsmonitor=git_index.NOTHING_CHANGED)
+                # What is as it was in the index stays known to have been looked at, and the rest is looked at now.
+                written = self.path / "index.new"
+                written.write_bytes(self.index.read_bytes())
+                self.say("read-tree", "-m", "-i", commit, fsmonitor=git_index.NOTHING_CHANGED, index=written)
+                with contextlib.suppress(Refusal):
+                    # What is written just now isn't as it was committed.
+                    self.say("update-index", "-q", "--refresh", fsmonitor=git_index.NOTHING_CHANGED, index=written)
+                written.replace(self.index)
+            (self.path / "SQUASH_MSG").unlink(missing_ok=True)
 
     def hold_at(self, top: str) -> None:
         """The index holds for the folder now that it is mounted there. Where it has no cache to be told so, Git looks
@@ -269,6 +285,14 @@ class GitFolder:
     def link(self) -> pathlib.Path:
         name = f"{LINK}{hashlib.sha256(os.fsencode(self.path)).hexdigest()[:16]}"
         return pathlib.Path(os.path.realpath(self.made_for()["of"]), "worktrees", name)
+
+    def own_name(self) -> pathlib.Path:
+        """A folder here that no other overlay has, which may come to lie at this place: by its name links lead here."""
+        for found in self.path.glob("id-*"):
+            return found
+        made = self.path / f"id-{secrets.token_hex(8)}"
+        made.mkdir()
+        return made
 
     def unlink(self) -> None:
         """The repository forgets it, where it knew it: it goes with a temporary overlay."""
@@ -287,17 +311,28 @@ class GitFolder:
             self.put("locked", b"a mount of mount-git\n")
             self.put("gitdir", os.fsencode(there) + b"\n")
             trees.mkdir(exist_ok=True)
+            to = self.own_name() / ".."
+            if link.is_symlink() and os.readlink(link) != str(to):
+                link.unlink()
             if not link.is_symlink():
-                link.symlink_to(self.path)
+                link.symlink_to(to)
         for other in trees.glob(f"{LINK}*"):
             with contextlib.suppress(OSError):
                 if not other.exists() and other.lstat().st_mtime < time.time() - SECONDS_KEPT:
                     other.unlink()
         if link.exists():
+            with contextlib.suppress(OSError):
+                os.utime(link, follow_symlinks=False)
             return link
         if os.access(trees.parent / "objects", os.W_OK):
             tell(f"{trees} can't be written: git gc won't know what Git makes here")
         return self.path
+
+
+def tell_of_left(stand: Fields) -> None:
+    """Tells that the folder isn't on the branch any more that somebody moved from elsewhere."""
+    if stand.get("left"):
+        tell(f"{stand['left']} was moved from elsewhere: the folder stands on {stand['commit']}, and on no branch")
 
 
 def fields_of(file: pathlib.Path) -> Fields:

@@ -16,10 +16,10 @@ import subprocess
 import sys
 from collections.abc import Callable, Iterable, Iterator
 
-from yakembi.control import Connection, Fields, tell
+from yakembi.control import Connection
 from yakembi.folder_changes import Change, changes_in
 from yakembi.git import Refusal
-from yakembi.git_folder import GitFolder, folder_for_git
+from yakembi.git_folder import GitFolder, folder_for_git, tell_of_left
 from yakembi.git_index import PROTOCOL
 
 TOKEN = b"mount-git"
@@ -39,12 +39,6 @@ def git(words: argparse.Namespace) -> None:
     environment = {**of_no_repository(), **variables}
     os.chdir(words.folder)
     os.execvpe("git", ["git", *words.words], environment)
-
-
-def tell_of_left(stand: Fields) -> None:
-    """Tells that the folder isn't on the branch any more that somebody moved from elsewhere."""
-    if stand["left"] is not None:
-        tell(f"{stand['left']} was moved from elsewhere: the folder stands on {stand['commit']}, and on no branch")
 
 
 def of_no_repository() -> dict[str, str]:
@@ -72,11 +66,13 @@ def fsmonitor(words: argparse.Namespace) -> None:
         if os.path.realpath(told["overlay"]) != os.path.realpath(words.overlay):
             raise Refusal(f"{top} shows another overlay than {words.overlay}")
         tell_of_left(told)
-        # Git may look by another index than the folder's own, as it does for a commit of some paths.
-        index = os.environ.get("GIT_INDEX_FILE")
         with open(told["lines"], "rb") as lines:
-            paths = to_look_at(changes_in(lines), lambda: folder.tracked(index)) | folder.otherwise(index)
-    sys.stdout.buffer.write(b"".join(field + b"\0" for field in (TOKEN, *sorted(folder.tell(paths)))))
+            paths = folder.tell(to_look_at(changes_in(lines), folder.tracked) | folder.otherwise())
+    # Git may look by another index, as it does for a commit of some paths: then at what that has otherwise as well.
+    index = os.environ.get("GIT_INDEX_FILE")
+    if index is not None and not os.path.samefile(index, folder.index):
+        paths |= folder.otherwise("--diff-filter=d", index=os.path.abspath(index))
+    sys.stdout.buffer.write(b"".join(field + b"\0" for field in (TOKEN, *sorted(paths))))
     sys.stdout.flush()
 
 
