@@ -1,4 +1,5 @@
-"""Git's own commands in a mounted folder, beside the same in a plain working tree: both have the same commits."""
+"""Git's own commands and `mount-git commit` in a mounted folder, beside Git in a plain working tree: both have the same
+commits."""
 
 import contextlib
 import os
@@ -19,6 +20,8 @@ from programs import MOUNT_GIT
 MOST_CHANGES = 2
 STEPS_IN_A_MOUNT = 15
 STEPS_BETWEEN_LOOKS = 10
+# One in so many steps is `mount-git commit`.
+COMMITS_OF_ALL = 8
 NAMES = ["plain.txt", "run.sh", "empty", "dir/a", "dir-x", "dir0", "many/3", "many/7", "notes/0/0.txt", "notes/1/1.txt",
          "notes/2", "notes/3", "hello/main.c", "hello", "new", "new/one", "new/two", "dir/b", "dir", "many/new", "left",
          ".gitignore", "ignored.tmp", "dir/ignored.tmp", "notes/new/deep/file"]
@@ -157,6 +160,24 @@ class Twins:
         check(f"{name}: git {shlex.join(words)}", (status, b"mount-git" in errors), (self.plain.run(words)[0], False))
         return status == 0
 
+    def commit_all(self, name: str, message: str) -> bool:
+        """`mount-git commit`, and what it is in Git's words: a commit of all, with what is ignored. Nobody may stand in
+        the mounted folder. It refuses where nothing differs, and on no branch."""
+        done = subprocess.run([MOUNT_GIT, "commit", self.mounted.top, "-m", message], capture_output=True,
+                              timeout=PATIENCE, cwd=self.overlay, env={**environment(), **AUTHOR})
+        beside, index = Folder(self.plain.top), self.overlay.with_name("index of all")
+        index.unlink(missing_ok=True)
+        beside.variables = {"GIT_INDEX_FILE": str(index)}
+        beside.run(["add", "-Af", "."])
+        differs = beside.run(["write-tree"])[1] != self.plain.run(["rev-parse", "HEAD^{tree}"])[1]
+        is_made = differs and self.plain.run(["symbolic-ref", "-q", "HEAD"])[0] == 0
+        if is_made:
+            self.plain.run(["add", "-Af", "."])
+            self.plain.run(["commit", "-qm", message])
+        errors = done.stderr if is_made else b""
+        check(f"{name}: mount-git commit", (done.returncode == 0, errors), (is_made, b""))
+        return is_made
+
     def check_same(self, name: str) -> None:
         check(name, self.mounted.state(), self.plain.state())
 
@@ -199,7 +220,11 @@ def one_step(twins: Twins, commands: Commands, generator: random.Random, name: s
         fields = how, commands.name(), commands.name(), generator.choice(TEXTS)
         check(f"{name}: {fields}", twins.mounted.change(*fields), twins.plain.change(*fields))
     words = commands.one()
-    is_done = twins.run(name, words)
+    if generator.randrange(COMMITS_OF_ALL) == 0:
+        words = ["commit all"]
+        is_done = twins.commit_all(name, commands.message())
+    else:
+        is_done = twins.run(name, words)
     if twins.is_under_way():
         twins.check_same(f"{name}, under way")
         twins.take_back(name)

@@ -69,9 +69,9 @@ def fsmonitor(words: argparse.Namespace) -> None:
         with open(told["lines"], "rb") as lines:
             paths = folder.tell(to_look_at(changes_in(lines), folder.tracked) | folder.otherwise())
     # Git may look by another index, as it does for a commit of some paths: then at what that has otherwise as well.
-    index = os.environ.get("GIT_INDEX_FILE")
-    if index is not None and not os.path.samefile(index, folder.index):
-        paths |= folder.otherwise("--diff-filter=d", index=os.path.abspath(index))
+    index = os.path.realpath(os.environ.get("GIT_INDEX_FILE", folder.index))
+    if index != os.path.realpath(folder.index) and os.path.exists(index):
+        paths |= folder.otherwise("--diff-filter=d", index=index)
     sys.stdout.buffer.write(b"".join(field + b"\0" for field in (TOKEN, *sorted(paths))))
     sys.stdout.flush()
 
