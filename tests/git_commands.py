@@ -168,7 +168,8 @@ class Twins:
         beside, index = Folder(self.plain.top), self.overlay.with_name("index of all")
         index.unlink(missing_ok=True)
         beside.variables = {"GIT_INDEX_FILE": str(index)}
-        beside.run(["add", "-Af", "."])
+        for words in (["read-tree", "HEAD"], ["add", "-Af", "."]):
+            beside.run(words)
         differs = beside.run(["write-tree"])[1] != self.plain.run(["rev-parse", "HEAD^{tree}"])[1]
         is_made = differs and self.plain.run(["symbolic-ref", "-q", "HEAD"])[0] == 0
         if is_made:
