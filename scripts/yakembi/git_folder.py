@@ -103,15 +103,16 @@ class GitFolder:
 
     # ---- Git in it
 
-    def variables(self, process: int, top: str) -> dict[str, str]:
-        """The environment in which Git asks the mount that this process shows. What only looks writes no index. The
-        folder is named by a path that is gone with the process, or Git would take all for removed that it had shown."""
+    def variables(self, held: str, top: str) -> dict[str, str]:
+        """The environment in which Git asks the mount. What only looks writes no index. The folder is named from a path
+        of the overlay that is gone with the mount, or Git would take all for removed that it had shown."""
         hook = f"{shlex.quote(str(SCRIPT))} fsmonitor {shlex.quote(str(self.path.parent))}"
         settings = {"core.fsmonitor": hook, "core.fsmonitorHookVersion": git_index.PROTOCOL,
                     "core.untrackedCache": "keep", "core.sparseCheckout": "false", "core.logAllRefUpdates": "true",
                     "core.preferSymlinkRefs": "false"}
-        return {"GIT_DIR": str(self.linked()), "GIT_WORK_TREE": f"/proc/{process}/root{top}",
-                "GIT_OPTIONAL_LOCKS": "0", **git_index.settings_as_variables(settings)}
+        return {"GIT_DIR": str(self.linked()), "GIT_OPTIONAL_LOCKS": "0",
+                "GIT_WORK_TREE": os.path.join(held, os.path.relpath(top, self.path.parent)),
+                **git_index.settings_as_variables(settings)}
 
     def say(self, *words: str, fsmonitor: str = "false", index: str | os.PathLike[str] | None = None) -> list[bytes]:
         """What Git says of the folder's index, or of another one, in fields that end in zero bytes."""

@@ -213,11 +213,10 @@ class Asked:
         return noted
 
     def about(self, fields: Fields, folder: pathlib.Path) -> Fields:
-        """The process that shows the folder, the repository, the overlay, the tree that changes are told against, and
-        what the folder stands on."""
-        stand = self.stand()
-        return {"process": os.getpid(), "repository": os.path.abspath(self.repository.path),
-                "overlay": self.overlay.path, "tree": self.noted().tree, **stand._asdict()}
+        """The repository, the overlay, a path of that which is gone with the mount, the tree that changes are told
+        against, and what the folder stands on."""
+        return {"repository": os.path.abspath(self.repository.path), "overlay": self.overlay.path,
+                "held": self.overlay.held_path(), "tree": self.noted().tree, **self.stand()._asdict()}
 
     def stand(self) -> Stand:
         """What the folder stands on. Where Git worked in it, its HEAD says that, and the note follows."""

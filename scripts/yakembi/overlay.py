@@ -54,6 +54,7 @@ class OverlayFolder:
     def __init__(self, path: str | os.PathLike[str]) -> None:
         os.makedirs(path, exist_ok=True)
         self.path = os.path.abspath(path)
+        self.place = os.open(self.path, os.O_PATH | os.O_DIRECTORY | os.O_CLOEXEC)
         self.note = os.open(os.path.join(self.path, NOTE), os.O_RDWR | os.O_CREAT | os.O_CLOEXEC, 0o666)
         try:
             fcntl.flock(self.note, fcntl.LOCK_EX | fcntl.LOCK_NB)
@@ -63,6 +64,11 @@ class OverlayFolder:
 
     def close(self) -> None:
         os.close(self.note)
+        os.close(self.place)
+
+    def held_path(self) -> str:
+        """A path of it that is there as long as this process holds it."""
+        return f"/proc/{os.getpid()}/fd/{self.place}"
 
     def is_fresh(self) -> bool:
         return not any(name == JOURNAL or NUMBERED.fullmatch(name) for name in os.listdir(self.path))

@@ -31,7 +31,7 @@ def git(words: argparse.Namespace) -> None:
     with contextlib.closing(Connection(words.folder)) as mount:
         about, top = mount.ask("about"), mount.top
         tell_of_left(about)
-        variables = folder_for_git(about, top).variables(about["process"], top)
+        variables = folder_for_git(about, top).variables(about["held"], top)
     if words.environment:
         for name, value in variables.items():
             print(f"export {name}={shlex.quote(value)}")
