@@ -15,6 +15,7 @@ from checks import PATIENCE, check, git
 from helpers.git import environment
 from mount_folder import MountGit
 from programs import MOUNT_GIT
+from yakembi.git_folder import UNDER_WAY
 
 # So many changes at most come before a command.
 MOST_CHANGES = 2
@@ -27,9 +28,6 @@ NAMES = ["plain.txt", "run.sh", "empty", "dir/a", "dir-x", "dir0", "many/3", "ma
          ".gitignore", "ignored.tmp", "dir/ignored.tmp", "notes/new/deep/file"]
 TEXTS = ["one\n", "two\n", "one\ntwo\n", "", "*.tmp\n", "three\n" * 40]
 BRANCHES = ["one", "two", "three"]
-
-# What Git has while a command waits for somebody to end it.
-UNDER_WAY = ("MERGE_HEAD", "CHERRY_PICK_HEAD", "REVERT_HEAD", "rebase-merge", "rebase-apply")
 
 Words = list[str]
 

@@ -147,7 +147,7 @@ class GitFolder:
         found = self.head_says(repository)
         if found is not None and self.stood_on(found):
             # Git holds HEAD from before it moves the branch until the log says so.
-            with self.head_held():
+            with self.held("HEAD"):
                 found = self.head_says(repository)
                 stood = self.stood_on(found) if found is not None else None
                 if found is not None and stood is not None and repository.commit_id(stood) is not None:
@@ -211,9 +211,6 @@ class GitFolder:
         finally:
             lock.unlink(missing_ok=True)
 
-    def head_held(self) -> contextlib.AbstractContextManager[None]:
-        return self.held("HEAD")
-
     def write_head(self, line: bytes) -> None:
         """Writes HEAD, which is held, and waits for the disk as Git does."""
         with open(self.path / "HEAD.new", "wb") as file:
@@ -240,7 +237,7 @@ class GitFolder:
         if repository.settings(r"^extensions\.refstorage$"):
             raise Refusal("the repository keeps its branches in another form than files")
         is_there = branch is not None and repository.commit_id(branch) == commit
-        with self.head_held():
+        with self.held("HEAD"):
             self.log.parent.mkdir(exist_ok=True)
             self.log.write_bytes(f"{NO_COMMIT} {commit} ".encode() + who(repository) + b"\tmount-git\n")
             self.write_head((b"ref: " + os.fsencode(branch or "") if is_there else commit.encode()) + b"\n")
