@@ -20,6 +20,8 @@ from yakembi.git_folder import UNDER_WAY
 # So many changes at most come before a command.
 MOST_CHANGES = 2
 STEPS_IN_A_MOUNT = 15
+# How Git knows of one mount after another.
+WAYS = ["--environment", "--dot-git", "as before"]
 STEPS_BETWEEN_LOOKS = 10
 # One in so many steps is `mount-git commit`.
 COMMITS_OF_ALL = 8
@@ -116,7 +118,7 @@ class Folder:
         found: dict[bytes, object] = {}
         for at, folders, files in os.walk(os.fsencode(self.top)):
             folders[:] = [name for name in folders if name != b".git"]
-            for name in (*files, *folders):
+            for name in {*files, *folders} - {b".git"}:
                 place = os.path.join(at, name)
                 if os.path.islink(place):
                     found[place[len(os.fsencode(self.top)) :]] = os.readlink(place)
@@ -138,14 +140,15 @@ class Twins:
         self.overlay = folder / "overlay"
 
     @contextlib.contextmanager
-    def mount(self) -> Iterator[None]:
-        """Mounts it, and has Git know of the mount."""
+    def mount(self, how: str) -> Iterator[None]:
+        """Mounts it, and has Git know of the mount: by the environment, by a `.git` that is made now, or by the one
+        that is there from the mount before."""
         with MountGit(self.bare, self.branch, self.mounted.top, "--overlay", self.overlay) as mount:
-            done = subprocess.run([MOUNT_GIT, "git", "--environment", self.mounted.top], capture_output=True,
-                                  timeout=PATIENCE)
-            check("the variables", (done.returncode, done.stderr), (0, b""))
-            words = shlex.split(done.stdout.decode())[1::2]
-            self.mounted.variables = dict(word.split("=", 1) for word in words)
+            if how != "as before":
+                done = subprocess.run([MOUNT_GIT, "git", how, self.mounted.top], capture_output=True, timeout=PATIENCE)
+                check(f"git {how}", (done.returncode, done.stderr), (0, b""))
+                words = shlex.split(done.stdout.decode())[1::2]
+                self.mounted.variables = dict(word.split("=", 1) for word in words)
             yield
             check("the end", mount.end("SIGTERM"), 0)
             check("git has no folder any more", self.mounted.run(["commit", "-qam", "all is gone"])[0], 128)
@@ -200,7 +203,7 @@ def check_git_commands(folder: pathlib.Path, repository: pathlib.Path, seed: int
     commands, twins = Commands(generator), Twins(folder, repository)
     succeeded: set[str] = set()
     for first in range(0, count, STEPS_IN_A_MOUNT):
-        with twins.mount():
+        with twins.mount(WAYS[first // STEPS_IN_A_MOUNT % len(WAYS)]):
             twins.check_same(f"seed {seed}, from step {first}")
             for number in range(first, min(count, first + STEPS_IN_A_MOUNT)):
                 name = f"seed {seed}, step {number}"

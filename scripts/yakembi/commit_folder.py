@@ -15,6 +15,7 @@ import subprocess
 import tempfile
 from collections.abc import Iterator, Sequence
 
+from yakembi import dot_git
 from yakembi.control import Connection, Fields, said_of, tell
 from yakembi.git import Refusal, Repository, entries, environment, said
 from yakembi.git_folder import NO_COMMIT, GitFolder, base_in, tell_of_left
@@ -47,12 +48,13 @@ def committed_by(mount: Connection, words: argparse.Namespace) -> tuple[str, str
     taken = mount.ask("snapshot")
     for line in taken["left_out"]:
         tell(line)
-    if taken["tree"] == repository.tree_of(base):
+    tree = dot_git.taken_out(pathlib.Path(taken["folder"]), taken["tree"], folder)
+    if tree == repository.tree_of(base):
         raise Refusal("nothing is changed since the commit that the folder stands on")
     objects = objects_in(pathlib.Path(taken["folder"]))
     check_names(objects)
     put(repository, objects)
-    made = committed(repository, taken["tree"], base, words.message)
+    made = committed(repository, tree, base, words.message)
     with said_behind(f"the commit {made} is made, but"):
         folder.move(repository, branch, made, was, f"commit: {next(iter(words.message.splitlines()), '')}")
     with said_behind(f"{branch} is moved to the commit {made}, but the mount doesn't know all of that:"):

@@ -21,6 +21,7 @@ from yakembi.git_folder import tell_of_left
 ESCAPES = {7: "\\a", 8: "\\b", 9: "\\t", 10: "\\n", 11: "\\v", 12: "\\f", 13: "\\r", 34: '\\"', 92: "\\\\"}
 # So a name at the top begins by which mountd keeps what was removed while it is open.
 HIDDEN = b"\xff" * 4
+DOT_GIT = b".git"
 QUOTED = {byte: ESCAPES.get(byte, chr(byte) if 32 <= byte < 127 else f"\\{byte:03o}") for byte in range(256)}
 
 
@@ -35,11 +36,12 @@ class Change(NamedTuple):
 
 
 def changes_in(lines: Iterator[bytes]) -> Iterator[Change]:
-    """The changes of the lines that `mountd changes` prints, but what nobody sees."""
+    """The changes of the lines that `mountd changes` prints, but what nobody sees, and a file by which Git finds the
+    repository."""
     for line in lines:
         letter, kind, path, *whole = line.decode().split()
         name = unquote_to_bytes(path)[1:]
-        if letter != "A" or not name.startswith(HIDDEN):
+        if letter != "A" or not name.startswith(HIDDEN) and (kind, name) != ("file", DOT_GIT):
             yield Change(letter, kind, name, bool(whole))
 
 

@@ -29,6 +29,10 @@ from yakembi.control import Fields, tell
 from yakembi.git import Refusal, Repository, said
 
 SCRIPT = pathlib.Path(__file__).resolve().parent.parent / "mount-git"
+# By them Git asks the mount what was changed, and keeps its files as we read them, whatever the repository is set to.
+SETTINGS = {"core.fsmonitor": f"{shlex.quote(str(SCRIPT))} fsmonitor", "core.fsmonitorHookVersion": git_index.PROTOCOL,
+            "core.untrackedCache": "keep", "core.sparseCheckout": "false", "core.logAllRefUpdates": "true",
+            "core.preferSymlinkRefs": "false"}
 # How long Git may hold HEAD, and how long we wait between two looks.
 SECONDS_HELD = 1.0
 SECONDS_BETWEEN = 0.02
@@ -38,6 +42,8 @@ NO_COMMIT = "0" * 40
 # How the names of our links begin among the repository's working trees, and how long one stays that leads nowhere, as
 # where the overlay lies on a disk that isn't there just now.
 LINK = "mount-git-"
+# What means something in a pattern.
+SPECIAL = re.compile(r"[*?\[\]\\]")
 SECONDS_KEPT = 90 * 86_400
 # What Git has in its folder while it is in the middle of something that ends in a commit.
 UNDER_WAY = {"MERGE_HEAD": "merge", "CHERRY_PICK_HEAD": "cherry-pick", "REVERT_HEAD": "revert",
@@ -59,7 +65,7 @@ class GitFolder:
     def __init__(self, overlay: str | os.PathLike[str]) -> None:
         self.path = pathlib.Path(os.path.realpath(overlay), "git")
         self.index, self.told, self.made, self.head = (self.path / name for name in ("index", "told", "made", "HEAD"))
-        self.log, self.seen = self.path / "logs/HEAD", self.path / "seen"
+        self.log, self.seen, self.dot_git = (self.path / name for name in ("logs/HEAD", "seen", "dot-git"))
 
     @contextlib.contextmanager
     def lock(self) -> Iterator[None]:
@@ -106,13 +112,9 @@ class GitFolder:
     def variables(self, held: str, top: str) -> dict[str, str]:
         """The environment in which Git asks the mount. What only looks writes no index. The folder is named from a path
         of the overlay that is gone with the mount, or Git would take all for removed that it had shown."""
-        hook = f"{shlex.quote(str(SCRIPT))} fsmonitor {shlex.quote(str(self.path.parent))}"
-        settings = {"core.fsmonitor": hook, "core.fsmonitorHookVersion": git_index.PROTOCOL,
-                    "core.untrackedCache": "keep", "core.sparseCheckout": "false", "core.logAllRefUpdates": "true",
-                    "core.preferSymlinkRefs": "false"}
         return {"GIT_DIR": str(self.linked()), "GIT_OPTIONAL_LOCKS": "0",
                 "GIT_WORK_TREE": os.path.join(held, os.path.relpath(top, self.path.parent)),
-                **git_index.settings_as_variables(settings)}
+                **git_index.settings_as_variables(SETTINGS)}
 
     def say(self, *words: str, fsmonitor: str = "false", index: str | os.PathLike[str] | None = None) -> list[bytes]:
         """What Git says of the folder's index, or of another one, in fields that end in zero bytes."""
@@ -294,8 +296,9 @@ class GitFolder:
 
     def unlink(self) -> None:
         """The repository forgets it, where it knew it: it goes with a temporary overlay."""
-        with contextlib.suppress(OSError, KeyError):
+        with contextlib.suppress(OSError, KeyError, Refusal):
             self.link().unlink()
+            exclude(Repository(self.made_for()["of"]), self.path)
 
     def linked(self) -> pathlib.Path:
         """Where Git finds it, among the repository's linked working trees. Where these can't be written Git finds it
@@ -303,9 +306,9 @@ class GitFolder:
         link = self.link()
         trees = link.parent
         # By this name Git knows that the working tree is there.
-        there = self.path / ".git"
+        there = pathlib.Path(self.made_for()["top"] if self.dot_git.exists() else self.path, ".git")
         with contextlib.suppress(OSError):
-            there.mkdir(exist_ok=True)
+            (self.path / ".git").mkdir(exist_ok=True)
             self.put("locked", b"a mount of mount-git\n")
             self.put("gitdir", os.fsencode(there) + b"\n")
             trees.mkdir(exist_ok=True)
@@ -315,9 +318,11 @@ class GitFolder:
             if not link.is_symlink():
                 link.symlink_to(to)
         for other in trees.glob(f"{LINK}*"):
-            with contextlib.suppress(OSError):
+            with contextlib.suppress(OSError, Refusal):
                 if not other.exists() and other.lstat().st_mtime < time.time() - SECONDS_KEPT:
+                    was = pathlib.Path(os.readlink(other)).parents[1]
                     other.unlink()
+                    exclude(Repository(str(trees.parent)), was)
         if link.exists():
             with contextlib.suppress(OSError):
                 os.utime(link, follow_symlinks=False)
@@ -325,6 +330,27 @@ class GitFolder:
         if os.access(trees.parent / "objects", os.W_OK):
             tell(f"{trees} can't be written: git gc won't know what Git makes here")
         return self.path
+
+
+def include(repository: Repository, folder: pathlib.Path) -> None:
+    """The repository's settings include what stands in `settings` there, for Git that has that folder of an overlay. A
+    Refusal, where they can't be written."""
+    key, wanted = f"{section_of(folder)}.path", str(folder / "settings")
+    told = repository.git("config", "--local", "--get", key).stdout
+    if os.fsdecode(told.removesuffix(b"\n")) != wanted:
+        done = repository.git("config", "--local", key, wanted)
+        if done.returncode != 0:
+            raise Refusal(f"the repository's settings can't be written{said(done.stderr)}")
+
+
+def exclude(repository: Repository, folder: pathlib.Path) -> None:
+    """They don't any more, where they did."""
+    repository.git("config", "--local", "--remove-section", section_of(folder))
+
+
+def section_of(folder: pathlib.Path) -> str:
+    """The condition of such settings (git-config(1), conditional includes), whose path is a pattern."""
+    return "includeIf.gitdir:" + SPECIAL.sub(r"\\\g<0>", str(folder))
 
 
 def tell_of_left(stand: Fields) -> None:

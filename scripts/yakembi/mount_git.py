@@ -21,7 +21,7 @@ import time
 from collections.abc import Callable, Iterator, Sequence
 from typing import BinaryIO, Protocol
 
-from yakembi import commit_folder, control, folder_changes, kernel, run_git
+from yakembi import commit_folder, control, dot_git, folder_changes, kernel, run_git
 from yakembi.addresses import socket_path
 from yakembi.control import Answers, Fields, tell
 from yakembi.git import Refusal, Repository, said
@@ -212,7 +212,7 @@ class Asked:
             raise Refusal(f"the overlay {self.overlay.path} doesn't say any more on which tree it stands")
         return noted
 
-    def about(self, fields: Fields, folder: pathlib.Path) -> Fields:
+    def about(self, *_: object) -> Fields:
         """The repository, the overlay, a path of that which is gone with the mount, the tree that changes are told
         against, and what the folder stands on."""
         return {"repository": os.path.abspath(self.repository.path), "overlay": self.overlay.path,
@@ -296,7 +296,7 @@ def show(words: argparse.Namespace, repository: Repository, noted: Noted, source
     threads = words.threads or (THREADS if "--remote" in source else 1)
     showing = kernel.Showing(words.mountd, noted.tree, source, overlay.path, folder, SECONDS_LOCKED, noted.seconds,
                              threads)
-    answers = Asked(showing, words.mountd, source, repository, words.revision, overlay).answers()
+    asked = Asked(showing, words.mountd, source, repository, words.revision, overlay)
     with kernel.ended_by_signals(showing):
         try:
             showing.open()
@@ -305,7 +305,8 @@ def show(words: argparse.Namespace, repository: Repository, noted: Noted, source
             raise unopened(str(refusal), overlay.path, shlex.join(repair)) from None
         except FileNotFoundError as problem:
             raise Refusal(f"{words.mountd} can't be run ({problem.strerror}): `make run` builds it") from None
-        with reachable(folder, answers), ends_told(overlay):
+        with reachable(folder, asked.answers()), ends_told(overlay):
+            dot_git.renew(asked.git, asked.about, showing.place)
             print(f"mounted {folder}", flush=True)
             showing.wait()
 

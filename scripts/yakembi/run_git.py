@@ -4,7 +4,7 @@ changed, to commit it, to switch branches. Git asks the mount what was changed, 
 Its branches, objects and settings are the repository's. Its index and HEAD lie in the overlay, and those of the
 repository's own working directory stay as they are. Words behind the folder are Git's: mount-git git FOLDER commit -a.
 With --environment nothing is run, and lines for a shell are printed by which other programs use Git so:
-eval "$(mount-git git --environment FOLDER)".
+eval "$(mount-git git --environment FOLDER)". With --dot-git the folder has a .git, and all programs use Git there.
 """
 
 import argparse
@@ -16,6 +16,7 @@ import subprocess
 import sys
 from collections.abc import Callable, Iterable, Iterator
 
+from yakembi import dot_git
 from yakembi.control import Connection
 from yakembi.folder_changes import Change, changes_in
 from yakembi.git import Refusal
@@ -31,6 +32,9 @@ def git(words: argparse.Namespace) -> None:
     with contextlib.closing(Connection(words.folder)) as mount:
         about, top = mount.ask("about"), mount.top
         tell_of_left(about)
+        if words.dot_git:
+            dot_git.make(about, top)
+            return
         variables = folder_for_git(about, top).variables(about["held"], top)
     if words.environment:
         for name, value in variables.items():
@@ -49,6 +53,7 @@ def of_no_repository() -> dict[str, str]:
 
 def fsmonitor(words: argparse.Namespace) -> None:
     """Answers Git's hook `core.fsmonitor` for an index that `mount-git git` made, which names this command to Git.
+    GIT_DIR is the folder `git` of the mount's overlay, as Git says it to its hooks.
 
     It prints the paths at which Git has to look: what was changed since the commit that was mounted, what the index has
     otherwise than that one, and what was told to have been changed.
@@ -56,15 +61,15 @@ def fsmonitor(words: argparse.Namespace) -> None:
     """
     if words.version != PROTOCOL:
         raise Refusal(f"the hook's protocol is version {PROTOCOL}, and not {words.version}")
-    folder = GitFolder(words.overlay)
-    top = folder.top()
-    if os.path.realpath(os.getcwd()) != top:
+    top, at = os.path.realpath(os.getcwd()), os.path.realpath(os.environ.get("GIT_DIR", os.curdir))
+    folder = GitFolder(os.path.dirname(at))
+    if str(folder.path) != at or folder.made_for().get("top") != top:
         # Git hands its settings to the one that it runs in a submodule or in another working tree.
         sys.exit(1)
     with contextlib.closing(Connection(top)) as mount:
         told = mount.ask("changes")
-        if os.path.realpath(told["overlay"]) != os.path.realpath(words.overlay):
-            raise Refusal(f"{top} shows another overlay than {words.overlay}")
+        if GitFolder(told["overlay"]).path != folder.path:
+            raise Refusal(f"{top} shows another overlay than {folder.path.parent}")
         tell_of_left(told)
         with open(told["lines"], "rb") as lines:
             paths = folder.tell(to_look_at(changes_in(lines), folder.tracked) | folder.otherwise())
@@ -106,8 +111,12 @@ def directories_below(top: bytes, paths: list[bytes]) -> Iterator[bytes]:
 def git_parser() -> argparse.ArgumentParser:
     found = argparse.ArgumentParser(prog="mount-git git", description=__doc__,
                                     formatter_class=argparse.RawDescriptionHelpFormatter)
-    found.add_argument("--environment", action="store_true",
-                       help="print the variables by which Git works in the folder, as lines for a shell")
+    others = found.add_mutually_exclusive_group()
+    others.add_argument("--environment", action="store_true",
+                        help="print the variables by which Git works in the folder, as lines for a shell")
+    others.add_argument("--dot-git", action="store_true",
+                        help="put a file .git at the top of the folder, by which Git works in it as it is, in this "
+                        "mount and in later ones with its overlay")
     found.add_argument("folder", metavar="FOLDER", help="a folder that `mount-git` shows, or one below it, in which "
                        "Git is run")
     found.add_argument("words", metavar="ARG", nargs=argparse.REMAINDER, help="what Git is given")
@@ -117,7 +126,6 @@ def git_parser() -> argparse.ArgumentParser:
 def fsmonitor_parser() -> argparse.ArgumentParser:
     found = argparse.ArgumentParser(prog="mount-git fsmonitor", description=fsmonitor.__doc__,
                                     formatter_class=argparse.RawDescriptionHelpFormatter)
-    found.add_argument("overlay", metavar="OVERLAY", help="the mount's overlay, which has a folder `git`")
     found.add_argument("version", metavar="VERSION", help="of the hook's protocol")
     found.add_argument("token", metavar="TOKEN", help="what the last answer began with")
     return found
