@@ -152,7 +152,7 @@ class Twins:
             yield
             check("the end", mount.end("SIGTERM"), 0)
             check("git has no folder any more", self.mounted.run(["commit", "-qam", "all is gone"])[0], 128)
-            # A branch that has moved on isn't the mounted tree any more.
+            # A branch on which the folder isn't is no more what is mounted.
             check("nothing is said", [line for line in mount.said() if "the overlay stands on" not in line], [])
 
     def run(self, name: str, words: Words) -> bool:
@@ -176,8 +176,8 @@ class Twins:
         if is_made:
             self.plain.run(["add", "-Af", "."])
             self.plain.run(["commit", "-qm", message])
-        errors = done.stderr if is_made else b""
-        check(f"{name}: mount-git commit", (done.returncode == 0, errors), (is_made, b""))
+        errors = [line for line in done.stderr.splitlines() if not line.endswith(b", an empty directory")]
+        check(f"{name}: mount-git commit", (done.returncode == 0, errors if is_made else []), (is_made, []))
         return is_made
 
     def check_same(self, name: str) -> None:

@@ -23,7 +23,7 @@ from mount_differences import tried
 from mount_folder import (BUILDS, CHANGES, COPIES, ENDINGS, LOOKS, Both, Large, MountGit, asked_for, check_own,
                           checkout, children, make_many_files, renamed, said_by)
 from programs import MOUNT_GIT, MOUNTD
-from yakembi import client
+from yakembi import client, kernel
 from yakembi.overlay_files import DIRECTORY, OWN, PLAIN, directory_body, entry_bytes, file_bytes
 from yakembi.tree_model import Values
 
@@ -144,6 +144,34 @@ def command_of(process: int) -> list[bytes]:
     return pathlib.Path(f"/proc/{process}/cmdline").read_bytes().split(b"\0")
 
 
+def check_background(folder: pathlib.Path, repository: pathlib.Path) -> None:
+    """In the background a mount stays when who began it has ended, and tells into a file. `mount-git end` ends it, with
+    what was changed in the overlay, and not while it is in use unless by force; what can't be mounted is told at
+    once."""
+    place, log, overlay = folder / "mounted", folder / "a log", folder / "overlay"
+    words = MountGit.words("--overlay", overlay, "--background", log, repository, "HEAD", place)
+    check("background: a mount", said_by(*words), (0, [f"mounted {place}"]))
+    try:
+        (place / "made").write_text("made")
+        line = f"mount-git: {place} is in use: leave the folder and close its files, or end it by --force"
+        with open(place / "made", "rb"):
+            check("background: in use", said_by(MOUNT_GIT, "end", place), (1, [line]))
+        check("background: it goes on", (place / "made").read_text(), "made")
+        check("background: the end, from below", said_by(MOUNT_GIT, "end", place / "dir"), (0, []))
+        check("background: the overlay is closed", (overlay / "0").exists(), True)
+        check("background: again", said_by(*words), (0, [f"mounted {place}"]))
+        with open(place / "made", "rb"):
+            check("background: by force", said_by(MOUNT_GIT, "end", "--force", place), (0, []))
+    finally:
+        kernel.unmount(str(place))
+    check("background: what is told", log.read_text(), f"mounted {place}\n" * 2)
+    check("background: nothing to end", said_by(MOUNT_GIT, "end", place),
+          (1, [f"mount-git: no mount-git shows {place}"]))
+    status, lines = said_by(*words[:-2], "no-such", place)
+    check("background: refused", (status, len(lines), lines[0].startswith("mount-git: ")), (1, 1, True))
+    check("background: and told in the file too", log.read_text().splitlines()[2:], lines)
+
+
 def check_second_mount(folder: pathlib.Path, repository: pathlib.Path) -> None:
     """An overlay that is mounted is refused to another, in one line."""
     overlay = folder / "overlay of two"
@@ -233,6 +261,37 @@ def check_moved_revision(folder: pathlib.Path) -> None:
         check("moved: the end", mount.end("SIGTERM"), 0)
         told = [before in line and after in line for line in mount.said()]
         check("moved: one line, with both trees", told, [True])
+
+
+def check_kept(folder: pathlib.Path) -> None:
+    """What an overlay stands on the repository keeps, though nothing else names it, until the overlay is gone for
+    long."""
+    repository, overlay = make_repository(folder), folder / "overlay"
+    with MountGit(repository, "HEAD", folder / "mounted", "--overlay", overlay) as mount:
+        seen = shown(Folder(mount.folder))
+        check("kept: the first end", (mount.end("SIGTERM"), mount.said()), (0, []))
+    tree = git(repository, "rev-parse", "HEAD^{tree}")
+    (repository / "plain.txt").write_text("other\n")
+    git(repository, "commit", "-qa", "--amend", "-m", "other")
+    forget_all(repository)
+    with MountGit(repository, "HEAD", folder / "mounted", "--overlay", overlay) as mount:
+        check("kept: what is shown", shown(Folder(mount.folder)), seen)
+        check("kept: the second end", mount.end("SIGTERM"), 0)
+    overlay.rename(folder / "moved")
+    for link in (repository / ".git/mount-git").iterdir():
+        os.utime(link, (0, 0), follow_symlinks=False)
+    with MountGit(repository, "HEAD", folder / "mounted") as mount:
+        check("kept: of no overlay", (mount.end("SIGTERM"), mount.said()), (0, []))
+    forget_all(repository)
+    check("kept: no more", git(repository, "for-each-ref", "refs/mount-git"), "")
+    status, lines = said_by(*MountGit.words(repository, "HEAD", folder / "mounted", "--overlay", folder / "moved"))
+    check("kept: what is gone is told", (status, tree in lines[0] and "the repository lacks" in lines[0]), (1, True))
+
+
+def forget_all(repository: pathlib.Path) -> None:
+    """The repository keeps what a ref has, and nothing else."""
+    git(repository, "reflog", "expire", "--expire=now", "--all")
+    git(repository, "gc", "-q", "--prune=now")
 
 
 def check_signed_commit(folder: pathlib.Path) -> None:

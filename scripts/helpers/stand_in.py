@@ -9,7 +9,7 @@ from typing import Self
 from helpers.programs import MOUNTD
 from yakembi import client, control
 from yakembi.client import Fields
-from yakembi.git import Repository
+from yakembi.git import Refusal, Repository
 from yakembi.kernel import Result, Unclosed
 from yakembi.mount_git import Asked, tree_to_show
 from yakembi.overlay import OverlayFolder
@@ -40,6 +40,9 @@ class Requests(client.Requests):
         assert self.session.child is not None
         with self.turn, standing_still(self.session.child):
             return work()
+
+    def finish(self, by_force: bool) -> None:
+        raise Refusal("who began what stands in for a mount ends it")
 
     def close(self) -> None:
         status = self.session.close()

@@ -72,8 +72,8 @@ def made_place() -> str:
     raise Refusal(f"no folder can be made for this user's sockets, as {places()[-1]}")
 
 
-def name_for(folder: str) -> str:
-    """The name of that folder's socket."""
+def name_for(folder: str | os.PathLike[str]) -> str:
+    """A name for what lies at that path, as for the folder's socket."""
     return hashlib.sha256(os.fsencode(os.path.realpath(folder))).hexdigest()[:32]
 
 
@@ -173,6 +173,11 @@ class Connection:
         if "refusal" in found:
             raise Refusal(found["refusal"])
         return found
+
+    def wait_for_end(self) -> None:
+        """Waits until the run that shows the folder has ended."""
+        with contextlib.suppress(OSError):
+            self.lines.read()
 
     def close(self) -> None:
         self.lines.close()

@@ -13,7 +13,6 @@ the link.
 
 import contextlib
 import fcntl
-import hashlib
 import json
 import os
 import pathlib
@@ -25,8 +24,9 @@ from collections.abc import Iterator
 from typing import NamedTuple
 
 from yakembi import git_index
-from yakembi.control import Fields, tell
+from yakembi.control import Fields, name_for, tell
 from yakembi.git import Refusal, Repository, said
+from yakembi.kept_tree import is_forgotten
 
 SCRIPT = pathlib.Path(__file__).resolve().parent.parent / "mount-git"
 # By them Git asks the mount what was changed, and keeps its files as we read them, whatever the repository is set to.
@@ -39,12 +39,10 @@ SECONDS_BETWEEN = 0.02
 # What HEAD says: a branch, or a commit.
 HEAD = re.compile(rb"(?:ref: (refs/.+)|([0-9a-f]{40}))\n?")
 NO_COMMIT = "0" * 40
-# How the names of our links begin among the repository's working trees, and how long one stays that leads nowhere, as
-# where the overlay lies on a disk that isn't there just now.
+# How the names of our links begin among the repository's working trees.
 LINK = "mount-git-"
 # What means something in a pattern.
 SPECIAL = re.compile(r"[*?\[\]\\]")
-SECONDS_KEPT = 90 * 86_400
 # What Git has in its folder while it is in the middle of something that ends in a commit.
 UNDER_WAY = {"MERGE_HEAD": "merge", "CHERRY_PICK_HEAD": "cherry-pick", "REVERT_HEAD": "revert",
              "rebase-merge": "rebase", "rebase-apply": "rebase", "sequencer": "cherry-pick"}
@@ -283,7 +281,7 @@ class GitFolder:
     # ---- to the repository
 
     def link(self) -> pathlib.Path:
-        name = f"{LINK}{hashlib.sha256(os.fsencode(self.path)).hexdigest()[:16]}"
+        name = LINK + name_for(self.path)[:16]
         return pathlib.Path(os.path.realpath(self.made_for()["of"]), "worktrees", name)
 
     def own_name(self) -> pathlib.Path:
@@ -319,13 +317,11 @@ class GitFolder:
                 link.symlink_to(to)
         for other in trees.glob(f"{LINK}*"):
             with contextlib.suppress(OSError, Refusal):
-                if not other.exists() and other.lstat().st_mtime < time.time() - SECONDS_KEPT:
+                if is_forgotten(other):
                     was = pathlib.Path(os.readlink(other)).parents[1]
                     other.unlink()
                     exclude(Repository(str(trees.parent)), was)
         if link.exists():
-            with contextlib.suppress(OSError):
-                os.utime(link, follow_symlinks=False)
             return link
         if os.access(trees.parent / "objects", os.W_OK):
             tell(f"{trees} can't be written: git gc won't know what Git makes here")

@@ -196,6 +196,9 @@ class Showing:
         # Whoever has it may put another mountd in the place of the one that shows the folder.
         self.turn = threading.Lock()
         self.shown: Shown | None = None
+        # Set once the last mountd has ended; `fault` is what was wrong with that.
+        self.done = threading.Event()
+        self.fault: str | None = None
         # Why nothing shows the folder any more, though each mountd closed the overlay well.
         self.lost: str | None = None
 
@@ -226,6 +229,15 @@ class Showing:
     def wait(self) -> None:
         """Waits until the folder is unmounted, or nothing shows it. `Unclosed`, if the last mountd didn't end well;
         `Unopened`, if none could be started after it and nobody ended the mount."""
+        try:
+            self.wait_for_last()
+        except (Unclosed, Unopened) as problem:
+            self.fault = str(problem)
+            raise
+        finally:
+            self.done.set()
+
+    def wait_for_last(self) -> None:
         while True:
             shown = self.shown
             assert shown is not None
@@ -244,7 +256,7 @@ class Showing:
         stays as it is. Programs that come once it is mounted again wait for the next mountd. `Unopened`, if there is
         none: then nothing is mounted any more, and the work may have been done."""
         with self.turn:
-            self.leave()
+            self.leave("it is unmounted for a moment for this, so leave the folder and close its files")
             with self.or_lost():
                 descriptor = self.mounted_again()
             try:
@@ -261,14 +273,13 @@ class Showing:
             with standing_still(self.shown.child):
                 return work()
 
-    def leave(self) -> None:
-        """Unmounts the folder, unless it is in use."""
+    def leave(self, what_to_do: str) -> None:
+        """Unmounts the folder. A Refusal, where it is in use, which says what to do then."""
         with contextlib.suppress(OSError):
             # Answered after the closes before it, of which the last one of a removed file takes that away.
             os.statvfs(self.folder)
         if self.is_ended or not unmount_unused(self.folder):
-            raise Refusal(f"{self.folder} is in use: it is unmounted for a moment for this, so leave the folder and "
-                          "close its files")
+            raise Refusal(f"{self.folder} is in use: {what_to_do}")
 
     @contextlib.contextmanager
     def or_lost(self) -> Iterator[None]:
@@ -290,6 +301,19 @@ class Showing:
             unmount(self.folder)
             raise Unclosed("it is ended" if self.is_ended else f"mountd ended with status {status}")
         return descriptor
+
+    def finish(self, by_force: bool) -> None:
+        """Unmounts the folder, by force also where it is in use, and waits until mountd has closed the overlay.
+        `Unclosed`, if it isn't closed well."""
+        with self.turn:
+            if by_force:
+                self.end()
+            else:
+                self.leave("leave the folder and close its files, or end it by --force")
+                self.is_ended = True
+        self.done.wait()
+        if self.fault is not None:
+            raise Unclosed(self.fault)
 
     def end(self) -> None:
         """Unmounts the folder, be it in use, upon which mountd closes the overlay and ends."""

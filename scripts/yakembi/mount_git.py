@@ -21,7 +21,8 @@ import time
 from collections.abc import Callable, Iterator, Sequence
 from typing import BinaryIO, Protocol
 
-from yakembi import commit_folder, control, dot_git, folder_changes, kernel, run_git
+from yakembi import (background, commit_folder, control, dot_git, end_folder, folder_changes, kept_tree, kernel,
+                     run_git)
 from yakembi.addresses import socket_path
 from yakembi.control import Answers, Fields, tell
 from yakembi.git import Refusal, Repository, said
@@ -100,12 +101,13 @@ def check_apart(overlay: str | None, folder: str) -> None:
 
 
 @contextlib.contextmanager
-def overlay_at(path: str | None) -> Iterator[OverlayFolder]:
-    """The overlay's folder; a temporary one where none is named."""
+def overlay_at(path: str | None, repository: Repository) -> Iterator[OverlayFolder]:
+    """The overlay's folder; a temporary one where none is named, which the repository forgets in the end."""
     with contextlib.ExitStack() as stack:
         if path is None:
             path = stack.enter_context(tempfile.TemporaryDirectory(prefix="mount-git."))
             stack.callback(GitFolder(path).unlink)
+            stack.callback(kept_tree.let_go, repository, path)
         try:
             overlay = OverlayFolder(path)
         except InUse:
@@ -130,14 +132,24 @@ def tree_to_show(repository: Repository, revision: str, overlay: OverlayFolder) 
         # What a partial clone lacks its remote may have.
         if not repository.remotes() and repository.git("cat-file", "-e", root).returncode != 0:
             raise Refusal(f"the overlay {overlay.path} stands on the tree {root}, which the repository lacks")
-        tell(f"{revision} is the tree {tree}, but the overlay stands on {root}, and that is shown; "
-             "another tree wants another overlay")
     if noted is None or noted.tree != root:
         noted = Noted(root, seconds)
+    if root != tree and not stands_there(repository, overlay, noted, named.commit):
+        tell(f"{revision} is the tree {tree}, but the overlay stands on {root}, and that is shown; "
+             "another tree wants another overlay")
     if noted.commit is None and root == tree:
         noted = noted._replace(commit=named.commit)
     overlay.write_note(noted)
     return noted
+
+
+def stands_there(repository: Repository, overlay: OverlayFolder, noted: Noted, commit: str | None) -> bool:
+    """Whether the folder, with its changes, stands on that commit, as after a commit of what it shows."""
+    git = GitFolder(overlay.path)
+    found = git.head_says(repository) if git.made_for().get("tree") == noted.tree else None
+    if found is not None:
+        return found.commit == commit and git.stood_on(found) is None
+    return noted.commit == commit
 
 
 @contextlib.contextmanager
@@ -183,11 +195,14 @@ def is_text(path: str) -> bool:
 
 
 class Served(Protocol):
-    """A mount that makes room for somebody's work: its overlay is closed for a moment, or it only stands still."""
+    """A mount that makes room for somebody's work: its overlay is closed for a moment, or it only stands still. Or it
+    is finished."""
 
     def while_closed(self, work: Callable[[], Result]) -> Result: ...
 
     def while_still(self, work: Callable[[], Result]) -> Result: ...
+
+    def finish(self, by_force: bool) -> None: ...
 
 
 class Asked:
@@ -204,7 +219,8 @@ class Asked:
         self.git = GitFolder(overlay.path)
 
     def answers(self) -> Answers:
-        return {"about": self.about, "changes": self.changes, "snapshot": self.snapshot, "committed": self.committed}
+        return {"about": self.about, "changes": self.changes, "snapshot": self.snapshot, "committed": self.committed,
+                "end": self.end}
 
     def noted(self) -> Noted:
         noted = self.overlay.noted()
@@ -266,6 +282,13 @@ class Asked:
         return {}
 
 
+    def end(self, fields: Fields, folder: pathlib.Path) -> Fields:
+        """The folder isn't mounted any more, and the overlay is closed."""
+        with ends_told(self.overlay):
+            self.below.finish("by_force" in fields)
+        return {}
+
+
 @contextlib.contextmanager
 def ends_told(overlay: OverlayFolder) -> Iterator[None]:
     """Refuses with the reason why a mountd that had the overlay didn't end well, or none came after it."""
@@ -289,8 +312,8 @@ def reachable(folder: str, answers: Answers) -> Iterator[None]:
 
 
 def show(words: argparse.Namespace, repository: Repository, noted: Noted, source: list[str], overlay: OverlayFolder,
-         folder: str) -> None:
-    """Shows the folder by `mountd fuse`, until nothing is mounted any more."""
+         folder: str, shown: Callable[[], object]) -> None:
+    """Shows the folder by `mountd fuse`, until nothing is mounted any more. Once it is shown, `shown` is told."""
     os.makedirs(folder, exist_ok=True)
     # Objects that lie here are read so soon that no other request need go before, and one thread wakes nobody.
     threads = words.threads or (THREADS if "--remote" in source else 1)
@@ -308,6 +331,7 @@ def show(words: argparse.Namespace, repository: Repository, noted: Noted, source
         with reachable(folder, asked.answers()), ends_told(overlay):
             dot_git.renew(asked.git, asked.about, showing.place)
             print(f"mounted {folder}", flush=True)
+            shown()
             showing.wait()
 
 
@@ -323,10 +347,12 @@ def run(words: argparse.Namespace) -> None:
     repository = Repository(words.repository)
     folder = mount_point(words.folder)
     check_apart(words.overlay, folder)
-    with overlay_at(words.overlay) as overlay:
+    shown = background.begin(words.background) if words.background else lambda: None
+    with overlay_at(words.overlay, repository) as overlay:
         noted = tree_to_show(repository, words.revision, overlay)
+        kept_tree.keep(repository, overlay.path, noted.tree)
         with source_of(repository, words, noted.tree) as source:
-            show(words, repository, noted, source, overlay, folder)
+            show(words, repository, noted, source, overlay, folder, shown)
 
 
 def number_of_threads(text: str) -> int:
@@ -353,6 +379,9 @@ def parser() -> argparse.ArgumentParser:
     found.add_argument("--threads", metavar="N", type=number_of_threads,
                        help=f"how many requests are answered at once; if left out {THREADS} of a partial clone, "
                             "with --log and for a path that is no UTF-8, and else 1")
+    found.add_argument("--background", metavar="FILE",
+                       help="go on in the background once it is mounted, and write to the end of that file what there "
+                       "is to tell")
     found.add_argument("--log", action="store_true", help="tell each object that is fetched on standard error")
     return found
 
@@ -361,6 +390,7 @@ def parser() -> argparse.ArgumentParser:
 COMMANDS: dict[str, tuple[Callable[[argparse.Namespace], None], Callable[[], argparse.ArgumentParser]]] = {
     "changes": (folder_changes.changes, folder_changes.changes_parser),
     "commit": (commit_folder.commit, commit_folder.commit_parser),
+    "end": (end_folder.end, end_folder.end_parser),
     "git": (run_git.git, run_git.git_parser),
     "fsmonitor": (run_git.fsmonitor, run_git.fsmonitor_parser),
 }
