@@ -15,7 +15,6 @@ AUTHOR = {"GIT_AUTHOR_NAME": "A", "GIT_AUTHOR_EMAIL": "a@example.org", "GIT_AUTH
           "GIT_COMMITTER_NAME": "C", "GIT_COMMITTER_EMAIL": "c@example.org", "GIT_COMMITTER_DATE": "1700000001 +0000"}
 
 
-def mount_git(command: str, folder: pathlib.Path, *words: str) -> tuple[int, str, str]:
-    done = subprocess.run([sys.executable, str(MOUNT_GIT), command, str(folder), *words], capture_output=True,
-                          env={**environment(), **AUTHOR})
+def mount_git(*words: str | pathlib.Path) -> tuple[int, str, str]:
+    done = subprocess.run([sys.executable, MOUNT_GIT, *words], capture_output=True, env={**environment(), **AUTHOR})
     return done.returncode, os.fsdecode(done.stdout), done.stderr.decode()

@@ -17,7 +17,7 @@ from collections.abc import Iterator, Sequence
 
 from yakembi import dot_git
 from yakembi.control import Connection, Fields, said_of, tell
-from yakembi.git import Refusal, Repository, entries, environment, said
+from yakembi.git import DOT_GIT, Refusal, Repository, entries, environment, said
 from yakembi.git_folder import NO_COMMIT, GitFolder, base_in, tell_of_left
 from yakembi.packs import objects_in, write_pack
 
@@ -48,7 +48,7 @@ def committed_by(mount: Connection, words: argparse.Namespace) -> tuple[str, str
     taken = mount.ask("snapshot")
     for line in taken["left_out"]:
         tell(line)
-    tree = dot_git.taken_out(pathlib.Path(taken["folder"]), taken["tree"], folder)
+    tree = dot_git.taken_out(pathlib.Path(taken["folder"]), taken["tree"])
     if tree == repository.tree_of(base):
         raise Refusal("nothing is changed since the commit that the folder stands on")
     objects = objects_in(pathlib.Path(taken["folder"]))
@@ -68,7 +68,7 @@ def check_names(objects: Sequence[pathlib.Path]) -> None:
         with open(place, "rb") as file:
             if file.read(5) == b"tree ":
                 names = {name.lower() for _, name, _ in entries(place.name, file.read().partition(b"\0")[2])}
-                if b".git" in names:
+                if DOT_GIT.encode() in names:
                     raise Refusal("a directory in the folder has a .git, which no commit may have: "
                                   "commit by `mount-git git`, or remove it")
 

@@ -137,13 +137,14 @@ def text_of(fields: Fields, name: str) -> str:
 
 
 @contextlib.contextmanager
-def serving(folder: str, answers: Answers) -> Iterator[None]:
-    """Answers what is asked at the folder's socket, until the block ends, and then still who has asked by then."""
+def serving(folder: str, answers: Answers) -> Iterator[threading.Lock]:
+    """Answers what is asked at the folder's socket, until the block ends, and then still who has asked by then. Whoever
+    has the lock that is given lets nobody be answered meanwhile."""
     server = Server(os.path.join(made_place(), name_for(folder)), answers)
     thread = threading.Thread(target=server.serve_forever, kwargs={"poll_interval": 0.05}, daemon=True)
     thread.start()
     try:
-        yield
+        yield server.turn
     finally:
         if server.turn.acquire(timeout=SECONDS_TO_TAKE):
             server.turn.release()

@@ -15,13 +15,13 @@ from typing import NamedTuple
 from urllib.parse import unquote_to_bytes
 
 from yakembi.control import Connection
+from yakembi.git import DOT_GIT
 from yakembi.git_folder import tell_of_left
 
 # How each byte stands in a quoted path (Git's `quote_c_style`).
 ESCAPES = {7: "\\a", 8: "\\b", 9: "\\t", 10: "\\n", 11: "\\v", 12: "\\f", 13: "\\r", 34: '\\"', 92: "\\\\"}
 # So a name at the top begins by which mountd keeps what was removed while it is open.
 HIDDEN = b"\xff" * 4
-DOT_GIT = b".git"
 QUOTED = {byte: ESCAPES.get(byte, chr(byte) if 32 <= byte < 127 else f"\\{byte:03o}") for byte in range(256)}
 
 
@@ -41,7 +41,7 @@ def changes_in(lines: Iterator[bytes]) -> Iterator[Change]:
     for line in lines:
         letter, kind, path, *whole = line.decode().split()
         name = unquote_to_bytes(path)[1:]
-        if letter != "A" or not name.startswith(HIDDEN) and (kind, name) != ("file", DOT_GIT):
+        if letter != "A" or not name.startswith(HIDDEN) and (name != DOT_GIT.encode() or kind == "dir"):
             yield Change(letter, kind, name, bool(whole))
 
 

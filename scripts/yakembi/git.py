@@ -15,6 +15,8 @@ PIECE = 1 << 20
 MODES = {b"40000", b"040000", b"100644", b"100664", b"100755", b"120000", b"160000"}
 FOLDERS = {b"40000", b"040000"}
 SUBMODULE = b"160000"
+# What is in a working tree, and in no tree.
+DOT_GIT = ".git"
 # The head of a commit's text: its tree, and when it was committed.
 COMMIT = re.compile(rb"tree ([0-9a-f]{40})\n(?:.+\n)*?committer .*> (\d+) [+-]\d+\n")
 # How a remote is reached, as far as the caller's environment says it.

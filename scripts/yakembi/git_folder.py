@@ -19,13 +19,14 @@ import pathlib
 import re
 import secrets
 import shlex
+import subprocess
 import time
 from collections.abc import Iterator
 from typing import NamedTuple
 
 from yakembi import git_index
 from yakembi.control import Fields, name_for, tell
-from yakembi.git import Refusal, Repository, said
+from yakembi.git import DOT_GIT, Refusal, Repository, environment, said
 from yakembi.kept_tree import is_forgotten
 
 SCRIPT = pathlib.Path(__file__).resolve().parent.parent / "mount-git"
@@ -63,7 +64,7 @@ class GitFolder:
     def __init__(self, overlay: str | os.PathLike[str]) -> None:
         self.path = pathlib.Path(os.path.realpath(overlay), "git")
         self.index, self.told, self.made, self.head = (self.path / name for name in ("index", "told", "made", "HEAD"))
-        self.log, self.seen, self.dot_git = (self.path / name for name in ("logs/HEAD", "seen", "dot-git"))
+        self.log, self.seen, self.dot_git_text = (self.path / name for name in ("logs/HEAD", "seen", "dot-git"))
 
     @contextlib.contextmanager
     def lock(self) -> Iterator[None]:
@@ -80,21 +81,23 @@ class GitFolder:
         with contextlib.suppress(FileNotFoundError):
             if file.read_bytes() == content:
                 return
-        written = self.path / f"{name}.new"
-        written.write_bytes(content)
-        written.replace(file)
+        written = self.path / f"{name}.{secrets.token_hex(8)}"
+        try:
+            with open(written, "xb") as new:
+                new.write(content)
+                new.flush()
+                os.fsync(new.fileno())
+            written.replace(file)
+        except OSError:
+            written.unlink(missing_ok=True)
+            raise
 
     def made_for(self) -> dict[str, str]:
         """The mount that it is for: `top`, the mounted folder, `tree`, against which changes are told, and `of`, the
-        repository. Nothing, where it was never made."""
-        return {name: str(value) for name, value in fields_of(self.made).items()}
-
-    def top(self) -> str:
-        """The mounted folder."""
-        top = self.made_for().get("top")
-        if top is None or not self.index.exists():
-            raise Refusal(f"{self.path} has no index for Git: `mount-git git` makes it")
-        return top
+        repository. Nothing, where it was never made, or a disk lost it."""
+        found = fields_of(self.made)
+        is_whole = all(isinstance(found.get(name), str) and "\0" not in found[name] for name in ("top", "tree", "of"))
+        return {name: found[name] for name in ("top", "tree", "of")} if is_whole else {}
 
     def tell(self, paths: set[bytes]) -> set[bytes]:
         """Those paths, and all that were told before."""
@@ -180,7 +183,7 @@ class GitFolder:
             return None
         try:
             commit, branch, seen = json.loads(self.seen.read_bytes())
-        except (OSError, ValueError):
+        except (OSError, TypeError, ValueError):
             return last
         is_logged_since = bool(seen) and seen[0] in lines[:-1]
         if (commit, branch) == (found.commit, found.branch) and not is_logged_since:
@@ -275,14 +278,13 @@ class GitFolder:
     def hold_at(self, top: str) -> None:
         """The index holds for the folder now that it is mounted there. Where it has no cache to be told so, Git looks
         into all directories."""
-        with contextlib.suppress(OSError, Refusal):
+        with contextlib.suppress(OSError, Refusal), self.held("index"):
             self.put("index", git_index.moved(self.index.read_bytes(), self.made_for()["top"], top))
 
     # ---- to the repository
 
     def link(self) -> pathlib.Path:
-        name = LINK + name_for(self.path)[:16]
-        return pathlib.Path(os.path.realpath(self.made_for()["of"]), "worktrees", name)
+        return pathlib.Path(os.path.realpath(self.made_for()["of"]), "worktrees", link_name(self.path))
 
     def own_name(self) -> pathlib.Path:
         """A folder here that no other overlay has, which may come to lie at this place: by its name links lead here."""
@@ -294,21 +296,26 @@ class GitFolder:
 
     def unlink(self) -> None:
         """The repository forgets it, where it knew it: it goes with a temporary overlay."""
-        with contextlib.suppress(OSError, KeyError, Refusal):
-            self.link().unlink()
-            exclude(Repository(self.made_for()["of"]), self.path)
+        if (of := self.made_for().get("of")) is not None:
+            exclude(of, self.path)
+            with contextlib.suppress(OSError):
+                self.link().unlink()
+
+    def name_place(self) -> None:
+        """The repository is told of a place that is there also while nothing is mounted, if Git has the folder. At the
+        mount point, which is empty then, Git would take all files for removed; but each day Git writes that there."""
+        with contextlib.suppress(OSError):
+            self.put("gitdir", os.fsencode(self.path / DOT_GIT) + b"\n")
 
     def linked(self) -> pathlib.Path:
         """Where Git finds it, among the repository's linked working trees. Where these can't be written Git finds it
         here, and makes no objects that would have to be kept."""
         link = self.link()
         trees = link.parent
-        # By this name Git knows that the working tree is there.
-        there = pathlib.Path(self.made_for()["top"] if self.dot_git.exists() else self.path, ".git")
         with contextlib.suppress(OSError):
-            (self.path / ".git").mkdir(exist_ok=True)
+            (self.path / DOT_GIT).mkdir(exist_ok=True)
             self.put("locked", b"a mount of mount-git\n")
-            self.put("gitdir", os.fsencode(there) + b"\n")
+            self.name_place()
             trees.mkdir(exist_ok=True)
             to = self.own_name() / ".."
             if link.is_symlink() and os.readlink(link) != str(to):
@@ -316,11 +323,10 @@ class GitFolder:
             if not link.is_symlink():
                 link.symlink_to(to)
         for other in trees.glob(f"{LINK}*"):
-            with contextlib.suppress(OSError, Refusal):
+            with contextlib.suppress(OSError):
                 if is_forgotten(other):
-                    was = pathlib.Path(os.readlink(other)).parents[1]
                     other.unlink()
-                    exclude(Repository(str(trees.parent)), was)
+        exclude_lost(trees)
         if link.exists():
             return link
         if os.access(trees.parent / "objects", os.W_OK):
@@ -328,20 +334,47 @@ class GitFolder:
         return self.path
 
 
-def include(repository: Repository, folder: pathlib.Path) -> None:
+def configured(common: str | os.PathLike[str], *words: str) -> subprocess.CompletedProcess[bytes]:
+    """A run of `git config` on a repository's own settings, which waits a little for who writes them."""
+    end = time.monotonic() + SECONDS_HELD
+    while True:
+        done = subprocess.run(["git", "config", "--file", os.path.join(common, "config"), *words], capture_output=True,
+                              env=environment())
+        if b"could not lock" not in done.stderr or time.monotonic() > end:
+            return done
+        time.sleep(SECONDS_BETWEEN)
+
+
+def include(common: str, folder: pathlib.Path) -> None:
     """The repository's settings include what stands in `settings` there, for Git that has that folder of an overlay. A
     Refusal, where they can't be written."""
     key, wanted = f"{section_of(folder)}.path", str(folder / "settings")
-    told = repository.git("config", "--local", "--get", key).stdout
-    if os.fsdecode(told.removesuffix(b"\n")) != wanted:
-        done = repository.git("config", "--local", key, wanted)
+    if os.fsdecode(configured(common, "-z", "--get", key).stdout.removesuffix(b"\0")) != wanted:
+        done = configured(common, key, wanted)
         if done.returncode != 0:
             raise Refusal(f"the repository's settings can't be written{said(done.stderr)}")
 
 
-def exclude(repository: Repository, folder: pathlib.Path) -> None:
-    """They don't any more, where they did."""
-    repository.git("config", "--local", "--remove-section", section_of(folder))
+def exclude(common: str | os.PathLike[str], folder: pathlib.Path) -> None:
+    """They don't any more, where they did and are there."""
+    if not os.path.exists(os.path.join(common, "config")):
+        return
+    done = configured(common, "--remove-section", section_of(folder))
+    if done.returncode != 0 and b"no such section" not in done.stderr:
+        tell(f"the settings in {common} go on to include those of {folder}{said(done.stderr)}")
+
+
+def exclude_lost(trees: pathlib.Path) -> None:
+    """They include nothing of an overlay that is gone, and whose link among the working trees is."""
+    rows = configured(trees.parent, "-z", "--get-regexp", r"^includeif\.gitdir:.*/git\.path$").stdout
+    for row in os.fsdecode(rows).split("\0")[:-1]:
+        folder = pathlib.Path(row.partition("\n")[2]).parent
+        if not folder.exists() and not (trees / link_name(folder)).is_symlink():
+            exclude(trees.parent, folder)
+
+
+def link_name(folder: pathlib.Path) -> str:
+    return LINK + name_for(folder)[:16]
 
 
 def section_of(folder: pathlib.Path) -> str:
@@ -377,17 +410,19 @@ def folder_for_git(about: Fields, top: str) -> GitFolder:
     made = {"top": top, "tree": about["tree"], "of": repository.common_folder}
     with folder.lock():
         before = folder.made_for()
-        is_new = before.get("tree") != about["tree"]
-        if is_new:
+        is_of_another = bool(before) and before["tree"] != about["tree"]
+        if is_of_another:
             folder.index.unlink(missing_ok=True)
-        if is_new or folder.head_says(repository) is None:
+        found = None if is_of_another else folder.head_says(repository)
+        if found is None:
             folder.begin(repository, base_in(about), about["branch"])
         folder.put("commondir", os.fsencode(repository.common_folder) + b"\n")
         if not folder.index.exists():
             folder.put("made", json.dumps(made).encode())
-            make(folder, repository, top, about["tree"], base_in(about))
+            make(folder, repository, top, about["tree"], found and found.commit or base_in(about))
         elif before != made:
-            folder.hold_at(top)
+            if before:
+                folder.hold_at(top)
             folder.put("made", json.dumps(made).encode())
     return folder
 

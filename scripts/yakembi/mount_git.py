@@ -17,6 +17,7 @@ import signal
 import subprocess
 import sys
 import tempfile
+import threading
 import time
 from collections.abc import Callable, Iterator, Sequence
 from typing import BinaryIO, Protocol
@@ -108,6 +109,8 @@ def overlay_at(path: str | None, repository: Repository) -> Iterator[OverlayFold
             path = stack.enter_context(tempfile.TemporaryDirectory(prefix="mount-git."))
             stack.callback(GitFolder(path).unlink)
             stack.callback(kept_tree.let_go, repository, path)
+        else:
+            stack.callback(GitFolder(path).name_place)
         try:
             overlay = OverlayFolder(path)
         except InUse:
@@ -228,7 +231,10 @@ class Asked:
             raise Refusal(f"the overlay {self.overlay.path} doesn't say any more on which tree it stands")
         return noted
 
-    def about(self, *_: object) -> Fields:
+    def about(self, fields: Fields, folder: pathlib.Path) -> Fields:
+        return self.facts()
+
+    def facts(self) -> Fields:
         """The repository, the overlay, a path of that which is gone with the mount, the tree that changes are told
         against, and what the folder stands on."""
         return {"repository": os.path.abspath(self.repository.path), "overlay": self.overlay.path,
@@ -301,14 +307,26 @@ def ends_told(overlay: OverlayFolder) -> Iterator[None]:
 
 
 @contextlib.contextmanager
-def reachable(folder: str, answers: Answers) -> Iterator[None]:
-    """Answers other runs; where they can't reach this one the folder is shown all the same."""
+def reachable(folder: str, answers: Answers) -> Iterator[threading.Lock]:
+    """Answers other runs, but while somebody has the lock; where they can't reach this one the folder is shown all the
+    same."""
     with contextlib.ExitStack() as stack:
+        turn = threading.Lock()
         try:
-            stack.enter_context(control.serving(folder, answers))
+            turn = stack.enter_context(control.serving(folder, answers))
         except (Refusal, OSError) as problem:
             tell(f"what {folder} shows can't be told or committed: {problem}")
+        yield turn
+
+
+@contextlib.contextmanager
+def shown_till_the_end(showing: kernel.Showing) -> Iterator[None]:
+    """Nothing stays mounted that nobody could ask or end, whatever goes wrong here."""
+    try:
         yield
+    except BaseException:
+        showing.end()
+        raise
 
 
 def show(words: argparse.Namespace, repository: Repository, noted: Noted, source: list[str], overlay: OverlayFolder,
@@ -328,8 +346,9 @@ def show(words: argparse.Namespace, repository: Repository, noted: Noted, source
             raise unopened(str(refusal), overlay.path, shlex.join(repair)) from None
         except FileNotFoundError as problem:
             raise Refusal(f"{words.mountd} can't be run ({problem.strerror}): `make run` builds it") from None
-        with reachable(folder, asked.answers()), ends_told(overlay):
-            dot_git.renew(asked.git, asked.about, showing.place)
+        with shown_till_the_end(showing), reachable(folder, asked.answers()) as turn, ends_told(overlay):
+            with turn:
+                dot_git.renew(asked.git, asked.facts, showing)
             print(f"mounted {folder}", flush=True)
             shown()
             showing.wait()

@@ -29,6 +29,8 @@ ANYTHING = b"/-"
 
 
 def git(words: argparse.Namespace) -> None:
+    if words.words and (words.environment or words.dot_git):
+        git_parser().error("Git is given no words with --environment or --dot-git")
     with contextlib.closing(Connection(words.folder)) as mount:
         about, top = mount.ask("about"), mount.top
         tell_of_left(about)
@@ -59,13 +61,16 @@ def fsmonitor(words: argparse.Namespace) -> None:
     otherwise than that one, and what was told to have been changed.
     Where it fails Git looks at every file.
     """
+    if "GIT_DIR" not in os.environ:
+        raise Refusal("GIT_DIR isn't set: this is for Git, which sets it")
     if words.version != PROTOCOL:
         raise Refusal(f"the hook's protocol is version {PROTOCOL}, and not {words.version}")
-    top, at = os.path.realpath(os.getcwd()), os.path.realpath(os.environ.get("GIT_DIR", os.curdir))
+    top, at = os.path.realpath(os.getcwd()), os.path.realpath(os.environ["GIT_DIR"])
     folder = GitFolder(os.path.dirname(at))
     if str(folder.path) != at or folder.made_for().get("top") != top:
         # Git hands its settings to the one that it runs in a submodule or in another working tree.
         sys.exit(1)
+    folder.name_place()
     with contextlib.closing(Connection(top)) as mount:
         told = mount.ask("changes")
         if GitFolder(told["overlay"]).path != folder.path:
