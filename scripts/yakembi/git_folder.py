@@ -28,12 +28,16 @@ from yakembi import git_index
 from yakembi.control import Fields, name_for, tell
 from yakembi.git import DOT_GIT, Refusal, Repository, environment, said
 from yakembi.kept_tree import is_forgotten
+from yakembi.submodules import put_right
 
 SCRIPT = pathlib.Path(__file__).resolve().parent.parent / "mount-git"
 # By them Git asks the mount what was changed, and keeps its files as we read them, whatever the repository is set to.
 SETTINGS = {"core.fsmonitor": f"{shlex.quote(str(SCRIPT))} fsmonitor", "core.fsmonitorHookVersion": git_index.PROTOCOL,
             "core.untrackedCache": "keep", "core.sparseCheckout": "false", "core.logAllRefUpdates": "true",
             "core.preferSymlinkRefs": "false"}
+MADE_FOR = "top", "tree", "of", "at"
+# An index begins so (Git's index format).
+INDEX_HEAD = b"DIRC"
 # How long Git may hold HEAD, and how long we wait between two looks.
 SECONDS_HELD = 1.0
 SECONDS_BETWEEN = 0.02
@@ -42,8 +46,8 @@ HEAD = re.compile(rb"(?:ref: (refs/.+)|([0-9a-f]{40}))\n?")
 NO_COMMIT = "0" * 40
 # How the names of our links begin among the repository's working trees.
 LINK = "mount-git-"
-# What means something in a pattern.
-SPECIAL = re.compile(r"[*?\[\]\\]")
+# What means something in a pattern. Git finds no section again whose name has a bracket: any character stands for it.
+SPECIAL, BRACKET = re.compile(r"[*?\\]"), re.compile(r"[][]")
 # What Git has in its folder while it is in the middle of something that ends in a commit.
 UNDER_WAY = {"MERGE_HEAD": "merge", "CHERRY_PICK_HEAD": "cherry-pick", "REVERT_HEAD": "revert",
              "rebase-merge": "rebase", "rebase-apply": "rebase", "sequencer": "cherry-pick"}
@@ -93,11 +97,17 @@ class GitFolder:
             raise
 
     def made_for(self) -> dict[str, str]:
-        """The mount that it is for: `top`, the mounted folder, `tree`, against which changes are told, and `of`, the
-        repository. Nothing, where it was never made, or a disk lost it."""
-        found = fields_of(self.made)
-        is_whole = all(isinstance(found.get(name), str) and "\0" not in found[name] for name in ("top", "tree", "of"))
-        return {name: found[name] for name in ("top", "tree", "of")} if is_whole else {}
+        """The mount that it is for: `top`, the mounted folder, `tree`, against which changes are told, `of`, the
+        repository, and `at`, where the folder itself lay. Nothing, where it was never made, or a disk lost it."""
+        found = {"at": str(self.path), **fields_of(self.made)}
+        is_whole = all(isinstance(found.get(name), str) and "\0" not in found[name] for name in MADE_FOR)
+        return {name: found[name] for name in MADE_FOR} if is_whole else {}
+
+    def has_index(self) -> bool:
+        """Whether it has an index that Git would read, as far as its first bytes tell."""
+        with contextlib.suppress(OSError), open(self.index, "rb") as file:
+            return file.read(len(INDEX_HEAD)) == INDEX_HEAD
+        return False
 
     def tell(self, paths: set[bytes]) -> set[bytes]:
         """Those paths, and all that were told before."""
@@ -189,6 +199,17 @@ class GitFolder:
         if (commit, branch) == (found.commit, found.branch) and not is_logged_since:
             return None
         return last if is_logged_since else commit
+
+    def signs(self, repository: Repository) -> tuple[object, ...]:
+        """What is other once HEAD, its log or its branch was moved, by whomever."""
+        try:
+            said = self.head.read_bytes()
+        except OSError:
+            return ()
+        named = HEAD.fullmatch(said)
+        branch = os.fsdecode(named[1] or b"HEAD") if named else "HEAD"
+        places = [self.log, *(pathlib.Path(repository.common_folder, name) for name in (branch, "packed-refs"))]
+        return said, *map(sign_of, places)
 
     def logged(self) -> list[str]:
         """The lines of HEAD's log, from the commit on to which each leads, but those that lead to none. What stands
@@ -349,10 +370,23 @@ def include(common: str, folder: pathlib.Path) -> None:
     """The repository's settings include what stands in `settings` there, for Git that has that folder of an overlay. A
     Refusal, where they can't be written."""
     key, wanted = f"{section_of(folder)}.path", str(folder / "settings")
-    if os.fsdecode(configured(common, "-z", "--get", key).stdout.removesuffix(b"\0")) != wanted:
-        done = configured(common, key, wanted)
-        if done.returncode != 0:
-            raise Refusal(f"the repository's settings can't be written{said(done.stderr)}")
+    if os.fsdecode(configured(common, "-z", "--get", key).stdout.removesuffix(b"\0")) == wanted:
+        if is_asked(folder):
+            return
+        # Others stand behind it, which count more.
+        exclude(common, folder)
+    done = configured(common, key, wanted)
+    if done.returncode != 0:
+        raise Refusal(f"the repository's settings can't be written{said(done.stderr)}")
+    if not is_asked(folder):
+        tell(f"another core.fsmonitor is set for {folder}: Git looks at all files, and fetches them")
+
+
+def is_asked(folder: pathlib.Path) -> bool:
+    """Whether Git that has that folder asks the mount."""
+    done = subprocess.run(["git", f"--git-dir={folder}", "config", "-z", "core.fsmonitor"], capture_output=True,
+                          env=environment())
+    return os.fsdecode(done.stdout.removesuffix(b"\0")) == SETTINGS["core.fsmonitor"]
 
 
 def exclude(common: str | os.PathLike[str], folder: pathlib.Path) -> None:
@@ -379,13 +413,22 @@ def link_name(folder: pathlib.Path) -> str:
 
 def section_of(folder: pathlib.Path) -> str:
     """The condition of such settings (git-config(1), conditional includes), whose path is a pattern."""
-    return "includeIf.gitdir:" + SPECIAL.sub(r"\\\g<0>", str(folder))
+    return "includeIf.gitdir:" + BRACKET.sub("?", SPECIAL.sub(r"\\\g<0>", str(folder)))
 
 
 def tell_of_left(stand: Fields) -> None:
     """Tells that the folder isn't on the branch any more that somebody moved from elsewhere."""
     if stand.get("left"):
         tell(f"{stand['left']} was moved from elsewhere: the folder stands on {stand['commit']}, and on no branch")
+
+
+def sign_of(file: pathlib.Path) -> tuple[int, int, int] | None:
+    """What is other once a file was written or replaced."""
+    try:
+        found = file.stat()
+    except OSError:
+        return None
+    return found.st_ino, found.st_mtime_ns, found.st_size
 
 
 def fields_of(file: pathlib.Path) -> Fields:
@@ -407,11 +450,11 @@ def folder_for_git(about: Fields, top: str) -> GitFolder:
     """The folder of a mount, made where it isn't there."""
     repository, folder = Repository(about["repository"]), GitFolder(about["overlay"])
     folder.path.mkdir(exist_ok=True)
-    made = {"top": top, "tree": about["tree"], "of": repository.common_folder}
+    made = {"top": top, "tree": about["tree"], "of": repository.common_folder, "at": str(folder.path)}
     with folder.lock():
         before = folder.made_for()
         is_of_another = bool(before) and before["tree"] != about["tree"]
-        if is_of_another:
+        if is_of_another or not folder.has_index():
             folder.index.unlink(missing_ok=True)
         found = None if is_of_another else folder.head_says(repository)
         if found is None:
@@ -423,6 +466,7 @@ def folder_for_git(about: Fields, top: str) -> GitFolder:
         elif before != made:
             if before:
                 folder.hold_at(top)
+                put_right(folder.path, before["at"], top, before["top"])
             folder.put("made", json.dumps(made).encode())
     return folder
 

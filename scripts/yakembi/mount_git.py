@@ -43,6 +43,8 @@ MOUNTD = os.environ.get("MOUNTD", BESIDE)
 SECONDS_LOCKED = 10
 # As many requests are answered at once where objects may have to be fetched from elsewhere, and nobody says how many.
 THREADS = 4
+# How long a branch that was moved from elsewhere may go unnoticed.
+SECONDS_BETWEEN_LOOKS = 0.5
 # How long git-objects may take to end.
 SECONDS_TO_END = 10
 UNOPENED = {
@@ -220,6 +222,8 @@ class Asked:
         self.branch = repository.branch_of(revision)
         self.overlay = overlay
         self.git = GitFolder(overlay.path)
+        # The branch that the folder was on until somebody else moved it, as long as nobody was told.
+        self.left: str | None = None
 
     def answers(self) -> Answers:
         return {"about": self.about, "changes": self.changes, "snapshot": self.snapshot, "committed": self.committed,
@@ -241,13 +245,21 @@ class Asked:
                 "held": self.overlay.held_path(), "tree": self.noted().tree, **self.stand()._asdict()}
 
     def stand(self) -> Stand:
-        """What the folder stands on. Where Git worked in it, its HEAD says that, and the note follows."""
+        """What the folder stands on. Where Git worked in it, its HEAD says that, and the note follows. A branch that
+        it was on until then is told once."""
+        found = self.look()
+        left, self.left = self.left, None
+        return found._replace(left=left)
+
+    def look(self) -> Stand:
+        """What the folder stands on, and where it isn't on a branch any more, that is kept until it is told."""
         noted, found = self.noted(), None
         if self.is_git_at(noted.tree):
             self.git.adopt(self.repository)
             found = self.git.stands_on(self.repository)
         if found is not None and found.commit is not None:
             self.overlay.write_note(noted._replace(commit=found.commit))
+        self.left = (found.left if found else None) or self.left
         return found or Stand(noted.commit, self.branch)
 
     def is_git_at(self, tree: str) -> bool:
@@ -320,6 +332,29 @@ def reachable(folder: str, answers: Answers) -> Iterator[threading.Lock]:
 
 
 @contextlib.contextmanager
+def watched(asked: Asked, turn: threading.Lock) -> Iterator[None]:
+    """Looks at the branch that the folder is on, as long as the block runs: where somebody else moves it the folder
+    leaves it, before Git begins anything on what it doesn't show."""
+    done = threading.Event()
+    def watch() -> None:
+        seen: tuple[object, ...] = ()
+        while not done.wait(SECONDS_BETWEEN_LOOKS):
+            signs = asked.git.signs(asked.repository)
+            if signs != seen:
+                # What can't be looked at now is looked at again.
+                with contextlib.suppress(Refusal, OSError), turn:
+                    asked.look()
+                    seen = signs
+    watching = threading.Thread(target=watch, daemon=True)
+    watching.start()
+    try:
+        yield
+    finally:
+        done.set()
+        watching.join(control.SECONDS_TO_TAKE)
+
+
+@contextlib.contextmanager
 def shown_till_the_end(showing: kernel.Showing) -> Iterator[None]:
     """Nothing stays mounted that nobody could ask or end, whatever goes wrong here."""
     try:
@@ -351,7 +386,8 @@ def show(words: argparse.Namespace, repository: Repository, noted: Noted, source
                 dot_git.renew(asked.git, asked.facts, showing)
             print(f"mounted {folder}", flush=True)
             shown()
-            showing.wait()
+            with watched(asked, turn):
+                showing.wait()
 
 
 def unopened(word: str, overlay: str, repair: str) -> Refusal:

@@ -1,0 +1,230 @@
+"""A folder that `mount-git` mounts through FUSE, with a `.git` at its top: cases of tests/git-status."""
+
+import os
+import pathlib
+import shlex
+import shutil
+import subprocess
+import time
+from collections import Counter
+
+import cases
+from answering import AUTHOR, mount_git
+from checks import PATIENCE, check, git
+from helpers.git import environment
+from mount_folder import MountGit, asked_for, make_project, missing, said_by
+from programs import MOUNT_GIT
+from yakembi import kernel
+
+
+class DotGit(cases.Case):
+    """Git, and what is asked of the mount."""
+
+    def setUp(self) -> None:
+        if lack := missing():
+            self.skipTest(lack)
+        super().setUp()
+        (self.folder / "project").mkdir()
+        self.repository = make_project(self.folder / "project")
+        self.short = git(self.repository, "symbolic-ref", "--short", "HEAD")
+        self.overlay = self.folder / "an [odd] *\\ \"name\"; #'"
+
+    def mounted(self, name: str = "mounted", *more: object) -> MountGit:
+        return MountGit(self.repository, "HEAD", self.folder / name, *(more or ("--log", "--overlay", self.overlay)))
+
+    def made(self, mount: MountGit) -> None:
+        check("--dot-git", mount_git("git", "--dot-git", mount.folder), (0, "", ""))
+
+    def git(self, at: pathlib.Path, *words: str) -> tuple[int, str]:
+        done = subprocess.run(["git", *words], capture_output=True, cwd=at, env={**environment(), **AUTHOR})
+        check(f"git {words[0]} says nothing more", done.stderr, b"")
+        return done.returncode, os.fsdecode(done.stdout).strip()
+
+    def check_found(self, mount: MountGit, *wanted: str) -> None:
+        """Git finds the repository, and is told by the mount what was changed, here and nowhere else. So it looks at no
+        file that wasn't, and asks for the tree at the top, and the object of a file that was."""
+        asked = Counter(asked_for(mount.log))
+        check("git status", self.git(mount.folder, "status", "--porcelain", "-b"), (0, "\n".join(wanted)))
+        check("what it asks for", (Counter(asked_for(mount.log)) - asked).total() <= 2, True)
+        hook = self.git(mount.folder / "notes", "config", "core.fsmonitor")
+        check("who is asked", hook, (0, f"{shlex.quote(str(MOUNT_GIT))} fsmonitor"))
+        check("nobody elsewhere", self.git(self.repository, "config", "core.fsmonitor"), (1, ""))
+
+    def test_life(self) -> None:
+        """It stays over mounts, where the folder, the overlay and the repository are elsewhere, and is in no commit."""
+        with self.mounted() as mount:
+            self.made(mount)
+            self.check_found(mount, f"## {self.short}")
+            (mount.folder / "plain.txt").write_text("by Git")
+            self.check_found(mount, f"## {self.short}", " M plain.txt")
+            check("git commit", self.git(mount.folder, "commit", "-qam", "by Git"), (0, ""))
+            (mount.folder / "ignored").write_bytes((mount.folder / ".git").read_bytes())
+            check("what was changed", said_by(MOUNT_GIT, "changes", mount.folder),
+                  (0, ["A\tignored", "M\tplain.txt"]))
+            check("mount-git commit", mount_git("commit", mount.folder, "-m", "by the mount")[0], 0)
+            self.check_found(mount, f"## {self.short}")
+            rows = git(self.repository, "diff", "--name-status", f"{self.short}~2", self.short).splitlines()
+            check("what is committed", rows, ["A\tignored", "M\tplain.txt"])
+            check("by Git's rules", subprocess.run(["git", "fsck", "--strict", "--no-dangling"], capture_output=True,
+                                                   cwd=self.repository).returncode, 0)
+            wanted = "mount-git: nothing is changed since the commit that the folder stands on\n"
+            check("and no more", mount_git("commit", mount.folder, "-m", "m"), (1, "", wanted))
+            self.made(mount)
+            check("the end", mount.end("SIGTERM"), 0)
+        with self.mounted("elsewhere") as mount:
+            self.check_found(mount, f"## {self.short}")
+            check("it stands on what was named", mount.said(), [])
+            check("a branch", self.git(mount.folder, "switch", "-qc", "topic"), (0, ""))
+        self.overlay = self.overlay.rename(self.folder / "moved")
+        self.repository = self.repository.rename(self.folder / "a much longer name of the repository")
+        with self.mounted() as mount:
+            self.check_found(mount, "## topic")
+        self.repository = self.repository.rename(self.folder / "short")
+        with self.mounted() as mount:
+            self.check_found(mount, "## topic")
+            (mount.folder / ".git").unlink()
+        with self.mounted() as mount:
+            check("taken away", (mount.folder / ".git").exists(), False)
+            self.made(mount)
+            self.check_found(mount, "## topic")
+
+    def test_moved_elsewhere(self) -> None:
+        """A branch that somebody else moves the folder leaves before Git begins anything there; who asks next is told.
+        """
+        with self.mounted() as mount:
+            self.made(mount)
+            before = git(self.repository, "rev-parse", "HEAD")
+            (self.repository / "empty").write_text("a colleague's")
+            git(self.repository, "commit", "-qam", "a colleague's")
+            end = time.monotonic() + PATIENCE
+            while (self.overlay / "git/HEAD").read_text() != f"{before}\n" and time.monotonic() < end:
+                time.sleep(0.01)
+            check("a branch", self.git(mount.folder, "switch", "-qc", "topic"), (0, ""))
+            (mount.folder / "plain.txt").write_text("mine")
+            moved = f"refs/heads/{self.short} was moved from elsewhere: the folder stands on {before}"
+            done = subprocess.run(["git", "commit", "-qam", "mine"], capture_output=True, cwd=mount.folder,
+                                  env={**environment(), **AUTHOR})
+            check("told", (done.returncode, done.stderr.decode()),
+                  (0, f"mount-git: {moved}, and on no branch\n"))
+            check("what is committed", git(self.repository, "diff", "--name-only", before, "topic"), "plain.txt")
+            self.check_found(mount, "## topic")
+
+    def test_submodules(self) -> None:
+        """A submodule that Git has filled is found where the folder and the overlay lie elsewhere."""
+        inner = self.folder / "inner"
+        inner.mkdir()
+        git(inner, "init", "-q")
+        git(inner, "commit", "-q", "--allow-empty", "-m", "inner")
+        git(self.repository, "-c", "protocol.file.allow=always", "submodule", "--quiet", "add", str(inner), "filled")
+        git(self.repository, "commit", "-qm", "with a submodule")
+        with self.mounted() as mount:
+            self.made(mount)
+            update = ["-c", "protocol.file.allow=always", "submodule", "--quiet", "update", "--init"]
+            check("filled", subprocess.run(["git", *update], cwd=mount.folder, env=environment()).returncode, 0)
+            self.check_found(mount, f"## {self.short}")
+        for name, place in [("elsewhere", "moved"), ("mounted", "longer/than/before"), ("m", "o")]:
+            (self.folder / place).parent.mkdir(parents=True, exist_ok=True)
+            self.overlay = self.overlay.rename(self.folder / place)
+            with self.mounted(name) as mount:
+                told = self.git(mount.folder, "submodule", "status", "filled")[1].split()[1:]
+                check(f"in {place}", told, ["filled", "(heads/main)"])
+                (mount.folder / "filled/new").write_text("new")
+                check("in it", self.git(mount.folder / "filled", "status", "--porcelain"), (0, "?? new"))
+                check("above it", self.git(mount.folder, "status", "--porcelain"), (0, "M filled"))
+
+    def test_settings_behind(self) -> None:
+        """What the repository's settings say behind doesn't count; and what counts all the same is told."""
+        settings = self.repository / ".git/config"
+        with self.mounted() as mount:
+            self.made(mount)
+            with open(settings, "a") as file:
+                file.write("[core]\n\tfsmonitor = false\n")
+            self.made(mount)
+            hook = self.git(mount.folder, "config", "core.fsmonitor")
+            check("who is asked", hook, (0, f"{shlex.quote(str(MOUNT_GIT))} fsmonitor"))
+            git(self.repository, "config", "extensions.worktreeConfig", "true")
+            check("another", self.git(mount.folder, "config", "--worktree", "core.fsmonitor", "false"), (0, ""))
+            status, _, errors = mount_git("git", "--dot-git", mount.folder)
+            check("told", (status, "another core.fsmonitor is set" in errors), (0, True))
+
+    def test_ended_at_once(self) -> None:
+        """A mount that ends while it begins leaves nothing at the mount point, and the next one has the file."""
+        with self.mounted() as mount:
+            self.made(mount)
+        repository, self.repository = self.repository, self.repository.rename(self.folder / "moved")
+        for tick in range(8):
+            mount = self.mounted()
+            while not mount.is_mounted() and mount.process.poll() is None:
+                time.sleep(0.001)
+            time.sleep(tick / 100)
+            check("the end", mount.end("SIGTERM") in (0, 1), True)
+            check("what is left", os.listdir(mount.folder), [])
+            kernel.unmount(str(mount.folder))
+        self.repository = self.repository.rename(repository)
+        with self.mounted() as mount:
+            self.check_found(mount, f"## {self.short}")
+            check("the end in peace", (mount.end("SIGTERM"), mount.said()), (0, []))
+
+    def test_lost(self) -> None:
+        """What a disk lost of the overlay's folder `git` loses no branch and nothing that is staged, and ends no
+        mount."""
+        with self.mounted() as mount:
+            self.made(mount)
+            check("a branch", self.git(mount.folder, "switch", "-qc", "topic"), (0, ""))
+            (mount.folder / "plain.txt").write_text("staged")
+            check("staged", self.git(mount.folder, "add", "-u"), (0, ""))
+        for name, text in [("made", ""), ("made", "null"), ("made", '{"tree": 1}'), ("seen", "null"), ("settings", ""),
+                           ("dot-git", ""), ("gitdir", f"{mount.folder}/.git\n")]:
+            (self.overlay / "git" / name).write_text(text)
+            with self.mounted() as mount:
+                told = self.git(mount.folder, "status", "--porcelain", "-b")
+                check(f"without {name}", told, (0, "## topic\nM  plain.txt"))
+                check(f"without {name}: the end", (mount.end("SIGTERM"), mount.said()), (0, []))
+        check("the place", (self.overlay / "git/gitdir").read_text(), f"{self.overlay}/git/.git\n")
+
+    def test_temporary(self) -> None:
+        """Of mounts without an overlay the repository keeps nothing, also if they end at once."""
+        before = (self.repository / ".git/config").read_bytes()
+        mounts = [self.enterContext(self.mounted(f"mounted {number}", "--threads", "2")) for number in range(3)]
+        for mount in mounts:
+            self.made(mount)
+            check("found", self.git(mount.folder, "status", "--porcelain", "-b"), (0, f"## {self.short}"))
+        for mount in mounts:
+            mount.process.terminate()
+        for mount in mounts:
+            check("the end", (mount.status(), mount.said()), (0, []))
+        check("its settings", (self.repository / ".git/config").read_bytes(), before)
+        check("its working trees", len(git(self.repository, "worktree", "list").splitlines()), 1)
+
+    def test_forgotten(self) -> None:
+        """The repository forgets an overlay that is gone for long, with the next one."""
+        for name in ("first", "second"):
+            self.overlay = self.folder / name
+            with self.mounted() as mount:
+                self.made(mount)
+            names = [self.folder / found for found in ("first", "second")
+                     if os.fsdecode(self.folder / found) in (self.repository / ".git/config").read_text()]
+            check("what it includes", names, [self.overlay])
+            shutil.rmtree(self.overlay)
+            for link in (self.repository / ".git/worktrees").iterdir():
+                os.utime(link, (0, 0), follow_symlinks=False)
+
+    def test_refused(self) -> None:
+        """What has a `.git` already keeps it, and no commit has that; and a repository that can't be written."""
+        with self.mounted() as mount:
+            lock = self.repository / ".git/config.lock"
+            lock.touch()
+            status, _, errors = mount_git("git", "--dot-git", mount.folder)
+            check("held settings", (status, "the repository's settings can't be written" in errors), (1, True))
+            check("nothing is made", [(mount.folder / ".git").exists(), (self.overlay / "git/dot-git").exists()],
+                  [False, False])
+            lock.unlink()
+            check("words", mount_git("git", "--dot-git", mount.folder, "status")[0], 2)
+            (mount.folder / ".git").symlink_to(self.folder / "victim")
+            wanted = f"mount-git: {mount.folder}/.git is there already, and mount-git didn't make it\n"
+            check("a link", mount_git("git", "--dot-git", mount.folder), (1, "", wanted))
+            (mount.folder / ".git").unlink()
+            check("git init", self.git(mount.folder, "init", "-q"), (0, ""))
+            check("another", mount_git("git", "--dot-git", mount.folder), (1, "", wanted))
+            status, _, errors = mount_git("commit", mount.folder, "-m", "m")
+            check("no commit has it", (status, "has a .git" in errors), (1, True))
