@@ -157,7 +157,9 @@ def check_background(folder: pathlib.Path, repository: pathlib.Path) -> None:
         with open(place / "made", "rb"):
             check("background: in use", said_by(MOUNT_GIT, "end", place), (1, [line]))
         check("background: it goes on", (place / "made").read_text(), "made")
-        check("background: the end, from below", said_by(MOUNT_GIT, "end", place / "dir"), (0, []))
+        line = f"mount-git: {place / 'dir'} isn't the top of a mount: that is {place}"
+        check("background: the end, from below", said_by(MOUNT_GIT, "end", place / "dir"), (1, [line]))
+        check("background: the end", said_by(MOUNT_GIT, "end", place), (0, []))
         check("background: the overlay is closed", (overlay / "0").exists(), True)
         check("background: again", said_by(*words), (0, [f"mounted {place}"]))
         with open(place / "made", "rb"):
@@ -264,26 +266,34 @@ def check_moved_revision(folder: pathlib.Path) -> None:
 
 
 def check_kept(folder: pathlib.Path) -> None:
-    """What an overlay stands on the repository keeps, though nothing else names it, until the overlay is gone for
-    long."""
+    """What an overlay stands on the repository keeps, though nothing else names it, so that it can be shown and
+    committed, until the overlay is gone for long."""
     repository, overlay = make_repository(folder), folder / "overlay"
     with MountGit(repository, "HEAD", folder / "mounted", "--overlay", overlay) as mount:
         seen = shown(Folder(mount.folder))
         check("kept: the first end", (mount.end("SIGTERM"), mount.said()), (0, []))
-    tree = git(repository, "rev-parse", "HEAD^{tree}")
+    tree, before = git(repository, "rev-parse", "HEAD^{tree}"), git(repository, "rev-parse", "HEAD")
     (repository / "plain.txt").write_text("other\n")
     git(repository, "commit", "-qa", "--amend", "-m", "other")
     forget_all(repository)
     with MountGit(repository, "HEAD", folder / "mounted", "--overlay", overlay) as mount:
         check("kept: what is shown", shown(Folder(mount.folder)), seen)
+        (mount.folder / "made").write_text("made")
+        status, _ = said_by(MOUNT_GIT, "commit", mount.folder, "-m", "made", "--branch", "saved")
+        check("kept: it is committed", (status, git(repository, "rev-parse", "saved^")), (0, before))
         check("kept: the second end", mount.end("SIGTERM"), 0)
+    git(repository, "branch", "-D", "saved")
     overlay.rename(folder / "moved")
-    for link in (repository / ".git/mount-git").iterdir():
-        os.utime(link, (0, 0), follow_symlinks=False)
-    with MountGit(repository, "HEAD", folder / "mounted") as mount:
-        check("kept: of no overlay", (mount.end("SIGTERM"), mount.said()), (0, []))
+    refs = git(repository, "for-each-ref", "refs/mount-git").splitlines()
+    check("kept: the tree and the commit", len(refs), 2)
+    for seconds, wanted in [(time.time(), refs), (0, refs), (0, [])]:
+        with MountGit(repository, "HEAD", folder / "mounted") as mount:
+            check("kept: of no overlay", (mount.end("SIGTERM"), mount.said()), (0, []))
+        check("kept: since then", git(repository, "for-each-ref", "refs/mount-git").splitlines(), wanted)
+        # The first mount saw that the overlay isn't there, and said when.
+        for mark in (repository / ".git/mount-git").glob("*.missing"):
+            os.utime(mark, (seconds, seconds))
     forget_all(repository)
-    check("kept: no more", git(repository, "for-each-ref", "refs/mount-git"), "")
     status, lines = said_by(*MountGit.words(repository, "HEAD", folder / "mounted", "--overlay", folder / "moved"))
     check("kept: what is gone is told", (status, tree in lines[0] and "the repository lacks" in lines[0]), (1, True))
 

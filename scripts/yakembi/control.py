@@ -33,9 +33,11 @@ SECONDS_TO_TAKE = 10
 
 
 def tell(line: str) -> None:
-    """Tells a line of `mount-git`'s on standard error, in one piece, since threads tell side by side."""
-    sys.stderr.write(f"mount-git: {line}\n")
-    sys.stderr.flush()
+    """Tells a line of `mount-git`'s on standard error, in one piece, since threads tell side by side. Where nobody can
+    be told, as on a full disk, all goes on."""
+    with contextlib.suppress(OSError, AttributeError):
+        sys.stderr.write(f"mount-git: {line}\n")
+        sys.stderr.flush()
 
 
 def said_of(problem: Refusal | OSError) -> str:
@@ -62,9 +64,10 @@ def is_ours(place: str) -> bool:
     return stat.S_ISDIR(found.st_mode) and found.st_uid == os.getuid() and stat.S_IMODE(found.st_mode) == 0o700
 
 
-def made_place() -> str:
-    """The first such folder that can be made, or is there."""
-    for place in places():
+def made_place(is_to_stay: bool) -> str:
+    """The first such folder that can be made, or is there. One that is to stay after its user has left the system is
+    looked for from the end."""
+    for place in reversed(places()) if is_to_stay else places():
         with contextlib.suppress(OSError):
             os.mkdir(place, 0o700)
         if is_ours(place):
@@ -75,6 +78,10 @@ def made_place() -> str:
 def name_for(folder: str | os.PathLike[str]) -> str:
     """A name for what lies at that path, as for the folder's socket."""
     return hashlib.sha256(os.fsencode(os.path.realpath(folder))).hexdigest()[:32]
+
+
+class Ended(Refusal):
+    """The run that was asked ended before it answered."""
 
 
 class Server(AddressServer):
@@ -137,10 +144,10 @@ def text_of(fields: Fields, name: str) -> str:
 
 
 @contextlib.contextmanager
-def serving(folder: str, answers: Answers) -> Iterator[threading.Lock]:
+def serving(folder: str, answers: Answers, is_to_stay: bool = False) -> Iterator[threading.Lock]:
     """Answers what is asked at the folder's socket, until the block ends, and then still who has asked by then. Whoever
     has the lock that is given lets nobody be answered meanwhile."""
-    server = Server(os.path.join(made_place(), name_for(folder)), answers)
+    server = Server(os.path.join(made_place(is_to_stay), name_for(folder)), answers)
     thread = threading.Thread(target=server.serve_forever, kwargs={"poll_interval": 0.05}, daemon=True)
     thread.start()
     try:
@@ -167,9 +174,9 @@ class Connection:
             self.socket.sendall(json.dumps({"do": what, **fields}).encode() + b"\n")
             line = self.lines.readline()
         except OSError as problem:
-            raise Refusal(f"the mount at {self.folder} doesn't answer: {problem.strerror or problem}") from None
+            raise Ended(f"the mount at {self.folder} doesn't answer: {problem.strerror or problem}") from None
         if not line.endswith(b"\n"):
-            raise Refusal(f"the mount at {self.folder} ended before it answered")
+            raise Ended(f"the mount at {self.folder} ended before it answered")
         found: Fields = json.loads(line)
         if "refusal" in found:
             raise Refusal(found["refusal"])

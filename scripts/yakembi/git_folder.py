@@ -27,7 +27,7 @@ from typing import NamedTuple
 from yakembi import git_index
 from yakembi.control import Fields, name_for, tell
 from yakembi.git import DOT_GIT, Refusal, Repository, environment, said
-from yakembi.kept_tree import is_forgotten
+from yakembi.kept_tree import forget, is_forgotten
 from yakembi.submodules import put_right
 
 SCRIPT = pathlib.Path(__file__).resolve().parent.parent / "mount-git"
@@ -309,6 +309,7 @@ class GitFolder:
 
     def own_name(self) -> pathlib.Path:
         """A folder here that no other overlay has, which may come to lie at this place: by its name links lead here."""
+        self.path.mkdir(exist_ok=True)
         for found in self.path.glob("id-*"):
             return found
         made = self.path / f"id-{secrets.token_hex(8)}"
@@ -346,7 +347,7 @@ class GitFolder:
         for other in trees.glob(f"{LINK}*"):
             with contextlib.suppress(OSError):
                 if is_forgotten(other):
-                    other.unlink()
+                    forget(other)
         exclude_lost(trees)
         if link.exists():
             return link

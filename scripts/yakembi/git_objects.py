@@ -14,6 +14,7 @@ user's alone.
 """
 
 import argparse
+import contextlib
 import os
 import re
 import signal
@@ -37,8 +38,9 @@ POLL = 0.1
 
 def tell(text: str) -> None:
     """In one piece, since threads tell side by side."""
-    sys.stderr.write(f"git-objects: {text}\n")
-    sys.stderr.flush()
+    with contextlib.suppress(OSError):
+        sys.stderr.write(f"git-objects: {text}\n")
+        sys.stderr.flush()
 
 
 class ClientConnection(ConnectionHandler):

@@ -1,58 +1,115 @@
-"""A ref by which a repository keeps the tree that an overlay stands on, though no branch has it any more: the overlay
-has changes alone, and `git gc` would take what they were made to.
+"""Refs by which a repository keeps the tree that an overlay stands on, and the commit that the next one is put on,
+though no branch has them any more: the overlay has changes alone, and `git gc` would take what they were made to.
 
-It is named by the overlay's path. A link of the same name, in the repository's folder `mount-git`, leads to the
-overlay: where it leads nowhere for long, the ref goes. A repository that can't be written keeps nothing more.
+They are named by the overlay's path and its own name, which no other overlay has that comes to lie there. A link of
+that name, in the repository's folder `mount-git`, leads to the overlay: where it leads nowhere for long, they go. A
+repository that can't be written keeps nothing more.
 """
 
 import contextlib
-import os
 import pathlib
 import time
 
-from yakembi.control import name_for
-from yakembi.git import Repository
+from yakembi.control import name_for, tell
+from yakembi.git import Repository, said
+from yakembi.overlay import Noted
+from yakembi.partial_clone import Plain
 
 REFS = "refs/mount-git/"
+TREE, COMMIT = "tree", "commit"
 LINKS = "mount-git"
-# How long a link stays that leads nowhere, as where the overlay lies on a disk that isn't there just now.
+# How the name of a mark ends that says since when a link leads nowhere, and how long such a link stays, as where the
+# overlay lies on a disk that isn't there just now.
+MISSING = ".missing"
 SECONDS_KEPT = 90 * 86_400
 
 
-def keep(repository: Repository, overlay: str, tree: str) -> None:
-    """The repository keeps the tree from now on. What a partial clone was given it keeps by itself."""
-    if repository.remotes():
-        return
-    link = link_to(repository, overlay)
+def keep(repository: Repository, own_name: pathlib.Path, noted: Noted) -> None:
+    """The repository keeps what is noted from now on. The overlay's own name lies in it."""
+    link = link_to(repository, own_name)
     with contextlib.suppress(OSError):
         link.parent.mkdir(exist_ok=True)
+        if not link.is_symlink():
+            link.symlink_to(own_name)
+        put(repository, link.name, TREE, noted.tree)
+        keep_commit(repository, own_name, noted.commit)
         for other in link.parent.iterdir():
-            if is_forgotten(other):
+            if other.is_symlink() and is_forgotten(other):
                 let_go_of(repository, other)
-        link.unlink(missing_ok=True)
-        link.symlink_to(os.path.realpath(overlay))
-        repository.git("update-ref", REFS + link.name, tree)
 
 
-def let_go(repository: Repository, overlay: str) -> None:
-    """The overlay goes, and nobody needs the tree for it."""
+def keep_commit(repository: Repository, own_name: pathlib.Path, commit: str | None) -> None:
+    if commit is not None and link_to(repository, own_name).is_symlink():
+        put(repository, link_to(repository, own_name).name, COMMIT, commit)
+
+
+def put(repository: Repository, name: str, kind: str, object_id: str) -> None:
+    if repository.remotes() and is_lacked(repository, object_id):
+        # A partial clone keeps by itself what it is given.
+        return
+    done = repository.git("-c", "core.logAllRefUpdates=false", "update-ref", f"{REFS}{name}/{kind}", object_id)
+    if done.returncode != 0:
+        tell(f"git gc may take what the overlay stands on{said(done.stderr)}")
+
+
+def is_lacked(repository: Repository, object_id: str) -> bool:
+    """Whether a partial clone would have to fetch it."""
+    here = Plain(repository)
+    try:
+        return here.absent([object_id]) != []
+    finally:
+        here.end()
+
+
+def let_go(repository: Repository, own_name: pathlib.Path) -> None:
+    """The overlay goes, and nobody needs for it what was kept."""
     with contextlib.suppress(OSError):
-        let_go_of(repository, link_to(repository, overlay))
-        link_to(repository, overlay).parent.rmdir()
-
-
-def link_to(repository: Repository, overlay: str) -> pathlib.Path:
-    return pathlib.Path(repository.common_folder, LINKS, name_for(overlay))
+        let_go_of(repository, link_to(repository, own_name))
 
 
 def let_go_of(repository: Repository, link: pathlib.Path) -> None:
-    repository.git("update-ref", "-d", REFS + link.name)
-    link.unlink(missing_ok=True)
+    done = [repository.git("update-ref", "-d", f"{REFS}{link.name}/{kind}").returncode for kind in (TREE, COMMIT)]
+    if not any(done):
+        forget(link)
+
+
+def link_to(repository: Repository, own_name: pathlib.Path) -> pathlib.Path:
+    name = f"{name_for(own_name.parent)[:16]}-{own_name.name.rpartition('-')[2]}"
+    return pathlib.Path(repository.common_folder, LINKS, name)
+
+
+# ---- links to overlays, these and those among the working trees
 
 
 def is_forgotten(link: pathlib.Path) -> bool:
-    """Whether a link leads nowhere since long. Its time says when it was last seen to lead somewhere."""
-    if link.exists():
-        os.utime(link, follow_symlinks=False)
+    """Whether a link of the repository's has led nowhere for long."""
+    mark = mark_of(link)
+    with contextlib.suppress(OSError):
+        if leads_somewhere(link):
+            mark.unlink(missing_ok=True)
+        elif mark.exists():
+            return mark.stat().st_mtime < time.time() - SECONDS_KEPT
+        else:
+            mark.parent.mkdir(exist_ok=True)
+            mark.touch()
+    return False
+
+
+def forget(link: pathlib.Path) -> None:
+    link.unlink(missing_ok=True)
+    mark_of(link).unlink(missing_ok=True)
+
+
+def mark_of(link: pathlib.Path) -> pathlib.Path:
+    return link.parent.parent / LINKS / f"{link.name}{MISSING}"
+
+
+def leads_somewhere(link: pathlib.Path) -> bool:
+    """Whether something is there, be it something that we may not look at."""
+    try:
+        link.stat()
+    except (FileNotFoundError, NotADirectoryError):
         return False
-    return link.lstat().st_mtime < time.time() - SECONDS_KEPT
+    except OSError:
+        return True
+    return True

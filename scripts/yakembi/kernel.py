@@ -34,6 +34,8 @@ WITH_A_LINE = (2, 3, 4)
 MS_NOSUID, MS_NODEV, MNT_FORCE, MNT_DETACH = 2, 4, 1, 2
 # A read has at most what the mount takes in one, and the kernel looks at permissions.
 OPTIONS = ["default_permissions", "max_read=65536"]
+# How long a mount that is unmounted may take to end before who asked for that is told.
+SECONDS_TO_CLOSE = 60
 ENDED = (signal.SIGTERM, signal.SIGINT, signal.SIGHUP)
 # By it the C library is told how to allocate.
 TUNABLES = "GLIBC_TUNABLES"
@@ -98,19 +100,21 @@ def unmount_unused(folder: str) -> bool:
     return subprocess.run(["fusermount3", "-u", "--", folder], capture_output=True).returncode == 0
 
 
-def abort(folder: str) -> None:
-    """Ends the connection of a mount of ours, so that mountd ends also while a program has a file open; of what else
-    the folder lies on nothing is ended. For others than root this takes the kernel's file of the connection, which is
-    there where fusectl is mounted; else nothing happens."""
-    with contextlib.suppress(OSError):
-        connection = connection_of(folder)
-        if connection is None:
-            return
-        if os.geteuid() == 0:
+def abort(folder: str, connection: int | None = None) -> None:
+    """Ends that connection, or else that of a mount of ours at the folder, so that mountd ends also while a program has
+    a file open, or another namespace the mount; of what else the folder lies on nothing is ended. This takes the
+    kernel's file of the connection, which is there where fusectl is mounted; without it root can do so at the folder,
+    and for others nothing happens."""
+    there = connection_of(folder)
+    connection = there if connection is None else connection
+    if connection is None:
+        return
+    try:
+        with open(CONNECTIONS / str(connection) / "abort", "w") as file:
+            file.write("1")
+    except OSError:
+        if os.geteuid() == 0 and there == connection:
             LIBC.umount2(os.fsencode(folder), MNT_FORCE)
-        else:
-            with open(CONNECTIONS / str(connection) / "abort", "w") as file:
-                file.write("1")
 
 
 def connection_of(folder: str) -> int | None:
@@ -196,6 +200,8 @@ class Showing:
         # Whoever has it may put another mountd in the place of the one that shows the folder.
         self.turn = threading.Lock()
         self.shown: Shown | None = None
+        # As the kernel numbers them, that of the mount.
+        self.connection: int | None = None
         # Set once the last mountd has ended; `fault` is what was wrong with that.
         self.done = threading.Event()
         self.fault: str | None = None
@@ -206,8 +212,13 @@ class Showing:
         """Shows it, by the descriptor if it is mounted already. `Unopened`, with mountd's own word, if the overlay
         isn't opened."""
         self.shown = self.opened(descriptor)
+        self.connection = connection_of(self.place)
         if self.is_ended:
             self.end()
+
+    def is_ours(self) -> bool:
+        """Whether what is mounted at the folder is ours, as far as we know our number: another one may have come."""
+        return self.connection is None or connection_of(self.place) == self.connection
 
     def opened(self, descriptor: int | None) -> Shown:
         """A mountd that shows the folder. What a killed one left is rescanned. It waits a little for one that still
@@ -244,7 +255,8 @@ class Showing:
             said = shown.last_words()
             with self.turn:
                 if self.shown is shown:
-                    unmount(self.folder)
+                    if self.is_ours():
+                        unmount(self.folder)
                     break
         if shown.child.returncode != 0:
             raise Unclosed(said)
@@ -304,23 +316,29 @@ class Showing:
 
     def finish(self, by_force: bool) -> None:
         """Unmounts the folder, by force also where it is in use, and waits until mountd has closed the overlay.
-        `Unclosed`, if it isn't closed well."""
+        `Unclosed`, if it isn't closed well. A `Refusal`, if that takes long, as where something holds the mount that
+        can't be told from here."""
         with self.turn:
             if by_force:
                 self.end()
             else:
                 self.leave("leave the folder and close its files, or end it by --force")
                 self.is_ended = True
-        self.done.wait()
+        if not self.done.wait(SECONDS_TO_CLOSE):
+            raise Refusal(f"{self.folder} is unmounted, but mountd goes on: it stores what it has, or something holds "
+                          "the mount elsewhere or has a file open, which --force ends")
         if self.fault is not None:
             raise Unclosed(self.fault)
 
     def end(self) -> None:
         """Unmounts the folder, be it in use, upon which mountd closes the overlay and ends."""
         self.is_ended = True
-        if not unmount_unused(self.folder):
-            abort(self.place)
-            unmount(self.folder)
+        if not (self.is_ours() and unmount_unused(self.folder)):
+            # While mountd runs nobody else has the number.
+            if self.shown is None or self.shown.child.poll() is None:
+                abort(self.place, self.connection)
+            if self.is_ours():
+                unmount(self.folder)
 
 
 @contextlib.contextmanager

@@ -10,6 +10,7 @@ It needs Debian's package fuse3, and mountd, which `make run` builds.
 import argparse
 import contextlib
 import errno
+import io
 import os
 import pathlib
 import shlex
@@ -92,12 +93,12 @@ def mount_point(path: str) -> str:
     return os.path.abspath(path)
 
 
-def check_apart(overlay: str | None, folder: str) -> None:
-    """A mount hides what its folder held, so that its overlay can't lie there."""
-    if overlay is not None:
-        overlay, folder = os.path.realpath(overlay), os.path.realpath(folder)
-        if os.path.commonpath([overlay, folder]) == folder:
-            raise Refusal(f"the overlay {overlay} may not lie in the folder {folder}, which hides it")
+def check_apart(what: str, place: str | None, folder: str) -> None:
+    """A mount hides what its folder held, so that nothing of its own can lie there."""
+    if place is not None:
+        place, folder = os.path.realpath(place), os.path.realpath(folder)
+        if os.path.commonpath([place, folder]) == folder:
+            raise Refusal(f"the {what} {place} may not lie in the folder {folder}, which hides it")
 
 
 # ---- what runs below
@@ -110,7 +111,7 @@ def overlay_at(path: str | None, repository: Repository) -> Iterator[OverlayFold
         if path is None:
             path = stack.enter_context(tempfile.TemporaryDirectory(prefix="mount-git."))
             stack.callback(GitFolder(path).unlink)
-            stack.callback(kept_tree.let_go, repository, path)
+            stack.callback(kept_tree.let_go, repository, GitFolder(path).own_name())
         else:
             stack.callback(GitFolder(path).name_place)
         try:
@@ -139,7 +140,7 @@ def tree_to_show(repository: Repository, revision: str, overlay: OverlayFolder) 
             raise Refusal(f"the overlay {overlay.path} stands on the tree {root}, which the repository lacks")
     if noted is None or noted.tree != root:
         noted = Noted(root, seconds)
-    if root != tree and not stands_there(repository, overlay, noted, named.commit):
+    if root != tree and not stands_there(repository, overlay, noted, named.commit, repository.branch_of(revision)):
         tell(f"{revision} is the tree {tree}, but the overlay stands on {root}, and that is shown; "
              "another tree wants another overlay")
     if noted.commit is None and root == tree:
@@ -148,13 +149,16 @@ def tree_to_show(repository: Repository, revision: str, overlay: OverlayFolder) 
     return noted
 
 
-def stands_there(repository: Repository, overlay: OverlayFolder, noted: Noted, commit: str | None) -> bool:
-    """Whether the folder, with its changes, stands on that commit, as after a commit of what it shows."""
+def stands_there(repository: Repository, overlay: OverlayFolder, noted: Noted, commit: str | None,
+                 branch: str | None) -> bool:
+    """Whether the folder, with its changes, stands on that commit, as after a commit of what it shows, and on no other
+    branch."""
     git = GitFolder(overlay.path)
     found = git.head_says(repository) if git.made_for().get("tree") == noted.tree else None
-    if found is not None:
-        return found.commit == commit and git.stood_on(found) is None
-    return noted.commit == commit
+    if found is None:
+        return commit is not None and noted.commit == commit
+    is_branch = branch is None or found.branch in (None, branch)
+    return commit is not None and found.commit == commit and is_branch and git.stood_on(found) is None
 
 
 @contextlib.contextmanager
@@ -224,6 +228,8 @@ class Asked:
         self.git = GitFolder(overlay.path)
         # The branch that the folder was on until somebody else moved it, as long as nobody was told.
         self.left: str | None = None
+        # Those of connections whose commit is under way, each as long as it is there.
+        self.taken: list[pathlib.Path] = []
 
     def answers(self) -> Answers:
         return {"about": self.about, "changes": self.changes, "snapshot": self.snapshot, "committed": self.committed,
@@ -234,6 +240,12 @@ class Asked:
         if noted is None:
             raise Refusal(f"the overlay {self.overlay.path} doesn't say any more on which tree it stands")
         return noted
+
+    def note(self, noted: Noted) -> None:
+        """That is what the overlay stands on from now on."""
+        if noted != self.overlay.noted():
+            self.overlay.write_note(noted)
+            kept_tree.keep_commit(self.repository, self.git.own_name(), noted.commit)
 
     def about(self, fields: Fields, folder: pathlib.Path) -> Fields:
         return self.facts()
@@ -258,7 +270,7 @@ class Asked:
             self.git.adopt(self.repository)
             found = self.git.stands_on(self.repository)
         if found is not None and found.commit is not None:
-            self.overlay.write_note(noted._replace(commit=found.commit))
+            self.note(noted._replace(commit=found.commit))
         self.left = (found.left if found else None) or self.left
         return found or Stand(noted.commit, self.branch)
 
@@ -276,6 +288,7 @@ class Asked:
     def snapshot(self, fields: Fields, folder: pathlib.Path) -> Fields:
         """The tree that is shown, the folder with its own objects, and what is left out of it."""
         into = folder / "objects"
+        self.taken = [place for place in self.taken if place.exists()] + [folder]
         with ends_told(self.overlay):
             done = self.below.while_closed(lambda: self.run(subprocess.PIPE, "snapshot", "--into", str(into)))
         left_out = [line.removeprefix("mountd: ") for line in done.stderr.decode(errors="replace").splitlines()]
@@ -293,7 +306,7 @@ class Asked:
         """The next commit is put on that one, on that branch."""
         commit, branch = control.text_of(fields, "commit"), control.text_of(fields, "branch")
         noted = self.noted()
-        self.overlay.write_note(noted._replace(commit=commit))
+        self.note(noted._replace(commit=commit))
         self.branch = branch
         if self.is_git_at(noted.tree):
             self.git.go_on(self.repository, commit, branch)
@@ -302,6 +315,8 @@ class Asked:
 
     def end(self, fields: Fields, folder: pathlib.Path) -> Fields:
         """The folder isn't mounted any more, and the overlay is closed."""
+        if "by_force" not in fields and any(place.exists() for place in self.taken):
+            raise Refusal("a commit of the folder is under way: end it once that is done, or by --force")
         with ends_told(self.overlay):
             self.below.finish("by_force" in fields)
         return {}
@@ -319,13 +334,13 @@ def ends_told(overlay: OverlayFolder) -> Iterator[None]:
 
 
 @contextlib.contextmanager
-def reachable(folder: str, answers: Answers) -> Iterator[threading.Lock]:
+def reachable(folder: str, answers: Answers, is_to_stay: bool) -> Iterator[threading.Lock]:
     """Answers other runs, but while somebody has the lock; where they can't reach this one the folder is shown all the
     same."""
     with contextlib.ExitStack() as stack:
         turn = threading.Lock()
         try:
-            turn = stack.enter_context(control.serving(folder, answers))
+            turn = stack.enter_context(control.serving(folder, answers, is_to_stay))
         except (Refusal, OSError) as problem:
             tell(f"what {folder} shows can't be told or committed: {problem}")
         yield turn
@@ -381,7 +396,8 @@ def show(words: argparse.Namespace, repository: Repository, noted: Noted, source
             raise unopened(str(refusal), overlay.path, shlex.join(repair)) from None
         except FileNotFoundError as problem:
             raise Refusal(f"{words.mountd} can't be run ({problem.strerror}): `make run` builds it") from None
-        with shown_till_the_end(showing), reachable(folder, asked.answers()) as turn, ends_told(overlay):
+        answering = reachable(folder, asked.answers(), words.background is not None)
+        with shown_till_the_end(showing), answering as turn, ends_told(overlay):
             with turn:
                 dot_git.renew(asked.git, asked.facts, showing)
             print(f"mounted {folder}", flush=True)
@@ -397,15 +413,26 @@ def unopened(word: str, overlay: str, repair: str) -> Refusal:
     return Refusal(f"{line}; this takes out what can't be read, and tells it: {repair}" if word in REPAIRED else line)
 
 
+def make_absolute(words: argparse.Namespace) -> None:
+    """The places that are named are still these, where we go elsewhere, or our folder is gone."""
+    words.repository = os.path.abspath(words.repository)
+    if words.overlay is not None:
+        words.overlay = os.path.abspath(words.overlay)
+    if os.sep in os.fspath(words.mountd):
+        words.mountd = os.path.abspath(words.mountd)
+
+
 def run(words: argparse.Namespace) -> None:
     check_fuse()
+    make_absolute(words)
     repository = Repository(words.repository)
     folder = mount_point(words.folder)
-    check_apart(words.overlay, folder)
+    check_apart("overlay", words.overlay, folder)
+    check_apart("file", words.background, folder)
     shown = background.begin(words.background) if words.background else lambda: None
     with overlay_at(words.overlay, repository) as overlay:
         noted = tree_to_show(repository, words.revision, overlay)
-        kept_tree.keep(repository, overlay.path, noted.tree)
+        kept_tree.keep(repository, GitFolder(overlay.path).own_name(), noted)
         with source_of(repository, words, noted.tree) as source:
             show(words, repository, noted, source, overlay, folder, shown)
 
@@ -452,6 +479,9 @@ COMMANDS: dict[str, tuple[Callable[[argparse.Namespace], None], Callable[[], arg
 
 
 def main() -> int:
+    # A folder's name may be any bytes.
+    if isinstance(sys.stdout, io.TextIOWrapper):
+        sys.stdout.reconfigure(errors="surrogateescape")
     command, parsed = COMMANDS.get("".join(sys.argv[1:2]), (run, parser))
     words = parsed().parse_args(sys.argv[1 if command is run else 2 :])
     signal.signal(signal.SIGTERM, lambda *_: sys.exit(1))

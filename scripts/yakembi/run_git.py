@@ -14,9 +14,10 @@ import os
 import shlex
 import subprocess
 import sys
+import time
 from collections.abc import Callable, Iterable, Iterator
 
-from yakembi import dot_git
+from yakembi import dot_git, kernel
 from yakembi.control import Connection
 from yakembi.folder_changes import Change, changes_in
 from yakembi.git import Refusal
@@ -24,6 +25,9 @@ from yakembi.git_folder import GitFolder, folder_for_git, tell_of_left
 from yakembi.git_index import PROTOCOL
 
 TOKEN = b"mount-git"
+# How long a mount may take from its first answer to a program until it answers us, and how long we wait between two
+# tries.
+SECONDS_TO_BEGIN, SECONDS_BETWEEN = 10.0, 0.02
 # The name of anything in a directory, which makes Git look through that directory.
 ANYTHING = b"/-"
 
@@ -67,11 +71,12 @@ def fsmonitor(words: argparse.Namespace) -> None:
         raise Refusal(f"the hook's protocol is version {PROTOCOL}, and not {words.version}")
     top, at = os.path.realpath(os.getcwd()), os.path.realpath(os.environ["GIT_DIR"])
     folder = GitFolder(os.path.dirname(at))
-    if str(folder.path) != at or folder.made_for().get("top") != top:
+    is_top = folder.made_for().get("top") == top or kernel.connection_of(top) is not None
+    if str(folder.path) != at or not is_top:
         # Git hands its settings to the one that it runs in a submodule or in another working tree.
         sys.exit(1)
     folder.name_place()
-    with contextlib.closing(Connection(top)) as mount:
+    with contextlib.closing(connected(top)) as mount:
         told = mount.ask("changes")
         if GitFolder(told["overlay"]).path != folder.path:
             raise Refusal(f"{top} shows another overlay than {folder.path.parent}")
@@ -84,6 +89,18 @@ def fsmonitor(words: argparse.Namespace) -> None:
         paths |= folder.otherwise("--diff-filter=d", index=index)
     sys.stdout.buffer.write(b"".join(field + b"\0" for field in (TOKEN, *sorted(paths))))
     sys.stdout.flush()
+
+
+def connected(top: str) -> Connection:
+    """To the run that shows the folder, which may just begin."""
+    end = time.monotonic() + SECONDS_TO_BEGIN
+    while True:
+        try:
+            return Connection(top)
+        except Refusal:
+            if kernel.connection_of(top) is None or time.monotonic() > end:
+                raise
+        time.sleep(SECONDS_BETWEEN)
 
 
 def to_look_at(changes: Iterable[Change], tracked: Callable[[], list[bytes]]) -> set[bytes]:
