@@ -5,6 +5,7 @@ import pathlib
 import shlex
 import shutil
 import subprocess
+import sys
 import time
 from collections import Counter
 
@@ -15,6 +16,8 @@ from helpers.git import environment
 from mount_folder import MountGit, asked_for, make_project, missing, said_by
 from programs import MOUNT_GIT
 from yakembi import kernel
+
+HOOK = f"{shlex.quote(sys.executable)} {shlex.quote(str(MOUNT_GIT))} fsmonitor"
 
 
 class DotGit(cases.Case):
@@ -47,7 +50,7 @@ class DotGit(cases.Case):
         check("git status", self.git(mount.folder, "status", "--porcelain", "-b"), (0, "\n".join(wanted)))
         check("what it asks for", (Counter(asked_for(mount.log)) - asked).total() <= 2, True)
         hook = self.git(mount.folder / "notes", "config", "core.fsmonitor")
-        check("who is asked", hook, (0, f"{shlex.quote(str(MOUNT_GIT))} fsmonitor"))
+        check("who is asked", hook, (0, HOOK))
         check("nobody elsewhere", self.git(self.repository, "config", "core.fsmonitor"), (1, ""))
 
     def test_life(self) -> None:
@@ -141,7 +144,7 @@ class DotGit(cases.Case):
                 file.write("[core]\n\tfsmonitor = false\n")
             self.made(mount)
             hook = self.git(mount.folder, "config", "core.fsmonitor")
-            check("who is asked", hook, (0, f"{shlex.quote(str(MOUNT_GIT))} fsmonitor"))
+            check("who is asked", hook, (0, HOOK))
             git(self.repository, "config", "extensions.worktreeConfig", "true")
             check("another", self.git(mount.folder, "config", "--worktree", "core.fsmonitor", "false"), (0, ""))
             status, _, errors = mount_git("git", "--dot-git", mount.folder)

@@ -20,6 +20,7 @@ import re
 import secrets
 import shlex
 import subprocess
+import sys
 import time
 from collections.abc import Iterator
 from typing import NamedTuple
@@ -31,10 +32,11 @@ from yakembi.kept_tree import forget, is_forgotten
 from yakembi.submodules import put_right
 
 SCRIPT = pathlib.Path(__file__).resolve().parent.parent / "mount-git"
-# By them Git asks the mount what was changed, and keeps its files as we read them, whatever the repository is set to.
-SETTINGS = {"core.fsmonitor": f"{shlex.quote(str(SCRIPT))} fsmonitor", "core.fsmonitorHookVersion": git_index.PROTOCOL,
-            "core.untrackedCache": "keep", "core.sparseCheckout": "false", "core.logAllRefUpdates": "true",
-            "core.preferSymlinkRefs": "false"}
+# By them Git asks the mount what was changed, and keeps its files as we read them, whatever else the repository is set
+# to. Python is named by its place: what stands for it at another may take longer than all else.
+SETTINGS = {"core.fsmonitor": f"{shlex.quote(sys.executable)} {shlex.quote(str(SCRIPT))} fsmonitor",
+            "core.fsmonitorHookVersion": git_index.PROTOCOL, "core.untrackedCache": "keep",
+            "core.sparseCheckout": "false", "core.logAllRefUpdates": "true", "core.preferSymlinkRefs": "false"}
 MADE_FOR = "top", "tree", "of", "at"
 # An index begins so (Git's index format).
 INDEX_HEAD = b"DIRC"
