@@ -200,17 +200,19 @@ class DotGit(cases.Case):
         check("its working trees", len(git(self.repository, "worktree", "list").splitlines()), 1)
 
     def test_forgotten(self) -> None:
-        """The repository forgets an overlay that is gone for long, with the next one."""
-        for name in ("first", "second"):
+        """The repository forgets an overlay that a mount finds gone, and one that comes long after it."""
+        names = ["first", "second", "third"]
+        for name, wanted in zip(names, (["first"], ["first", "second"], ["second", "third"])):
             self.overlay = self.folder / name
             with self.mounted() as mount:
                 self.made(mount)
-            names = [self.folder / found for found in ("first", "second")
-                     if os.fsdecode(self.folder / found) in (self.repository / ".git/config").read_text()]
-            check("what it includes", names, [self.overlay])
+            settings = (self.repository / ".git/config").read_text()
+            found = [other for other in names if os.fsdecode(self.folder / other) in settings]
+            check("what it includes", found, wanted)
+            check("its working trees", len(list((self.repository / ".git/worktrees").iterdir())), len(wanted))
             shutil.rmtree(self.overlay)
-            for link in (self.repository / ".git/worktrees").iterdir():
-                os.utime(link, (0, 0), follow_symlinks=False)
+            for mark in (self.repository / ".git/mount-git").glob("*.missing"):
+                os.utime(mark, (0, 0))
 
     def test_refused(self) -> None:
         """What has a `.git` already keeps it, and no commit has that; and a repository that can't be written."""
