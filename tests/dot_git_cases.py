@@ -80,6 +80,8 @@ class DotGit(cases.Case):
             check("a branch", self.git(mount.folder, "switch", "-qc", "topic"), (0, ""))
         self.overlay = self.overlay.rename(self.folder / "moved")
         self.repository = self.repository.rename(self.folder / "a much longer name of the repository")
+        check("Git in it", self.git(self.repository, "branch", "--list", "topic"), (0, "topic"))
+        check("gc in it", self.git(self.repository, "gc", "-q"), (0, ""))
         with self.mounted() as mount:
             self.check_found(mount, "## topic")
         self.repository = self.repository.rename(self.folder / "short")
@@ -99,9 +101,7 @@ class DotGit(cases.Case):
             before = git(self.repository, "rev-parse", "HEAD")
             (self.repository / "empty").write_text("a colleague's")
             git(self.repository, "commit", "-qam", "a colleague's")
-            end = time.monotonic() + PATIENCE
-            while (self.overlay / "git/HEAD").read_text() != f"{before}\n" and time.monotonic() < end:
-                time.sleep(0.01)
+            self.wait_until_detached(before)
             check("a branch", self.git(mount.folder, "switch", "-qc", "topic"), (0, ""))
             (mount.folder / "plain.txt").write_text("mine")
             moved = f"refs/heads/{self.short} was moved from elsewhere: the folder stands on {before}"
@@ -111,6 +111,67 @@ class DotGit(cases.Case):
                   (0, f"mount-git: {moved}, and on no branch\n"))
             check("what is committed", git(self.repository, "diff", "--name-only", before, "topic"), "plain.txt")
             self.check_found(mount, "## topic")
+
+    def wait_until_detached(self, commit: str) -> None:
+        end = time.monotonic() + PATIENCE
+        while (self.overlay / "git/HEAD").read_text() != f"{commit}\n" and time.monotonic() < end:
+            time.sleep(0.01)
+
+    def test_deleted(self) -> None:
+        """A branch that somebody else deletes leaves what was committed on it, and the next commit on that."""
+        with self.mounted() as mount:
+            self.made(mount)
+            (mount.folder / "plain.txt").write_text("mine")
+            check("a commit", self.git(mount.folder, "commit", "-qam", "mine"), (0, ""))
+            made = git(self.repository, "rev-parse", "HEAD")
+            self.check_found(mount, f"## {self.short}")
+            git(self.repository, "update-ref", "-d", f"refs/heads/{self.short}")
+            self.wait_until_detached(made)
+            told = subprocess.run(["git", "status", "--porcelain", "-b"], capture_output=True, cwd=mount.folder,
+                                  env=environment())
+            check("on no branch", (told.stdout, b"was moved from elsewhere" in told.stderr),
+                  (b"## HEAD (no branch)\n", True))
+            (mount.folder / "plain.txt").write_text("more")
+            check("the next commit", self.git(mount.folder, "commit", "-qam", "more"), (0, ""))
+            check("on it", self.git(mount.folder, "rev-parse", "HEAD^"), (0, made))
+
+    def test_another_repository(self) -> None:
+        """A repository that lacks what was committed and staged isn't changed by it, and Git works there."""
+        first, self.repository = self.repository, self.folder / "clone"
+        before = git(first, "rev-parse", "HEAD")
+        for words in ([], ["switch", "-q", "--detach"]):
+            git(self.folder, "clone", "-q", str(first), str(self.repository))
+            with self.mounted() as mount:
+                self.made(mount)
+                for name in ("plain.txt", "staged"):
+                    (mount.folder / name).write_text(f"{name} {words}")
+                    check("staged", self.git(mount.folder, "add", "-A"), (0, ""))
+                    if name == "plain.txt":
+                        check("a branch", self.git(mount.folder, *words or ["status", "-s"])[0], 0)
+                        check("a commit", self.git(mount.folder, "commit", "-qm", "mine"), (0, ""))
+            (first / "empty").write_text(f"a colleague's, {words}")
+            git(first, "commit", "-qam", "a colleague's")
+            shutil.rmtree(self.repository)
+            git(self.folder, "clone", "-q", str(first), str(self.repository))
+            with self.mounted() as mount:
+                found = self.git(mount.folder, "status", "--porcelain", "-b")
+                check("what was there, on no branch", found, (0, "## HEAD (no branch)\n M plain.txt\n?? staged"))
+                check("it stands there", self.git(mount.folder, "rev-parse", "HEAD"), (0, before))
+                check("told", ["the repository lacks" in line for line in mount.said()].count(True), 2)
+                check("gc", self.git(self.repository, "gc", "-q", "--prune=now"), (0, ""))
+                git(self.repository, "fsck", "--strict")
+            shutil.rmtree(self.overlay)
+            shutil.rmtree(self.repository)
+            before = git(first, "rev-parse", "HEAD")
+
+    def test_unnamed(self) -> None:
+        """Without an overlay a commit that no branch has is named at the end."""
+        with self.mounted("mounted", "--threads", "2") as mount:
+            self.made(mount)
+            check("on no branch", self.git(mount.folder, "switch", "-q", "--detach"), (0, ""))
+            check("a commit", self.git(mount.folder, "commit", "-q", "--allow-empty", "-m", "mine"), (0, ""))
+            made = self.git(mount.folder, "rev-parse", "HEAD")[1]
+            check("the end", (mount.end("SIGTERM"), [made in line for line in mount.said()]), (0, [True]))
 
     def test_submodules(self) -> None:
         """A submodule that Git has filled is found where the folder and the overlay lie elsewhere."""

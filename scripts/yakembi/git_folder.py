@@ -27,8 +27,8 @@ from typing import NamedTuple
 
 from yakembi import git_index
 from yakembi.control import Fields, name_for, tell
-from yakembi.git import DOT_GIT, Refusal, Repository, environment, said
-from yakembi.kept_tree import forget, is_forgotten
+from yakembi.git import DOT_GIT, SUBMODULE, Refusal, Repository, environment, said
+from yakembi.kept_tree import forget, is_forgotten, lead
 from yakembi.submodules import put_right
 
 SCRIPT = pathlib.Path(__file__).resolve().parent.parent / "mount-git"
@@ -43,6 +43,8 @@ INDEX_HEAD = b"DIRC"
 # How long Git may hold HEAD, and how long we wait between two looks.
 SECONDS_HELD = 1.0
 SECONDS_BETWEEN = 0.02
+# How long Git may take between the two steps of renaming a branch.
+SECONDS_OF_A_RENAME = 0.2
 # What HEAD says: a branch, or a commit.
 HEAD = re.compile(rb"(?:ref: (refs/.+)|([0-9a-f]{40}))\n?")
 NO_COMMIT = "0" * 40
@@ -156,21 +158,42 @@ class GitFolder:
     def stands_on(self, repository: Repository) -> Stand | None:
         """What HEAD says; None where there is none yet, or it says nothing, as where a disk lost it.
 
-        Where HEAD's branch was moved from elsewhere, the folder stands where it stood, and on no branch, and HEAD says
-        so from now on. A Refusal, where that can't be said, since Git holds HEAD.
+        Where HEAD's branch was moved from elsewhere, or the repository lacks the commit, the folder stands where it
+        stood last that the repository knows, and on no branch, and HEAD says so from now on. A Refusal, where that
+        can't be said, since Git holds HEAD, or the repository has none of these.
         """
         found = self.head_says(repository)
-        if found is not None and self.stood_on(found):
+        if found is not None and found.commit is None and self.stood_on(found):
+            # As while Git renames the branch.
+            time.sleep(SECONDS_OF_A_RENAME)
+        if self.stood_at(repository) is not None:
             # Git holds HEAD from before it moves the branch until the log says so.
             with self.held("HEAD"):
-                found = self.head_says(repository)
-                stood = self.stood_on(found) if found is not None else None
-                if found is not None and stood is not None and repository.commit_id(stood) is not None:
-                    self.write_head(stood.encode() + b"\n")
-                    found = Stand(stood, None, found.branch)
+                found, stood = self.head_says(repository), self.stood_at(repository)
+                if stood is not None:
+                    known = next((commit for commit in [stood, *self.stood_before()] if repository.commit_id(commit)),
+                                 None)
+                    if known is None:
+                        raise Refusal(f"the repository lacks {stood}, on which the folder stood, and all before it")
+                    self.write_head(known.encode() + b"\n")
+                    found = Stand(known, None, found.branch if found and known == stood else stood)
         if found is not None:
             self.put("seen", json.dumps([found.commit, found.branch, self.logged()[-1:]]).encode())
         return found
+
+    def stood_at(self, repository: Repository) -> str | None:
+        """The commit that the folder stood on, where that isn't any more what HEAD says; None where it is."""
+        found = self.head_says(repository)
+        if found is not None:
+            return self.stood_on(found)
+        with contextlib.suppress(OSError):
+            if (named := HEAD.fullmatch(self.head.read_bytes())) and named[2]:
+                return named[2].decode()
+        return None
+
+    def stood_before(self) -> list[str]:
+        """The commits on which it stood, as far as HEAD's log tells, the last one first."""
+        return [line.split()[0] for line in reversed(self.logged())]
 
     def head_says(self, repository: Repository) -> Stand | None:
         """What HEAD says, as `stands_on` has it, whoever moved the branch."""
@@ -191,14 +214,17 @@ class GitFolder:
         """
         lines = self.logged()
         last = lines[-1].split()[0] if lines else None
-        if found.branch is None or found.commit in (None, last):
+        if found.branch is None or found.commit is not None and found.commit == last:
             return None
         try:
             commit, branch, seen = json.loads(self.seen.read_bytes())
         except (OSError, TypeError, ValueError):
-            return last
+            return last if found.commit else None
         is_logged_since = bool(seen) and seen[0] in lines[:-1]
         if (commit, branch) == (found.commit, found.branch) and not is_logged_since:
+            return None
+        if found.commit is None and branch != found.branch:
+            # One that was begun here.
             return None
         return last if is_logged_since else commit
 
@@ -341,7 +367,8 @@ class GitFolder:
             self.put("locked", b"a mount of mount-git\n")
             self.name_place()
             trees.mkdir(exist_ok=True)
-            to = self.own_name() / ".."
+            # By the repository's own place, so that it leads nowhere in one that was moved: Git reads nothing there.
+            to = lead(os.path.realpath(self.made_for()["of"]), self.own_name()) / os.pardir
             if link.is_symlink() and os.readlink(link) != str(to):
                 link.unlink()
             if not link.is_symlink():
@@ -420,9 +447,11 @@ def section_of(folder: pathlib.Path) -> str:
 
 
 def tell_of_left(stand: Fields) -> None:
-    """Tells that the folder isn't on the branch any more that somebody moved from elsewhere."""
-    if stand.get("left"):
-        tell(f"{stand['left']} was moved from elsewhere: the folder stands on {stand['commit']}, and on no branch")
+    """Tells that the folder isn't on the branch any more that somebody moved from elsewhere, or on the commit that the
+    repository lacks."""
+    if left := stand.get("left"):
+        what = f"{left} was moved from elsewhere" if left.startswith("refs/") else f"the repository lacks {left}"
+        tell(f"{what}: the folder stands on {stand['commit']}, and on no branch")
 
 
 def sign_of(file: pathlib.Path) -> tuple[int, int, int] | None:
@@ -463,6 +492,10 @@ def folder_for_git(about: Fields, top: str) -> GitFolder:
         if found is None:
             folder.begin(repository, base_in(about), about["branch"])
         folder.put("commondir", os.fsencode(repository.common_folder) + b"\n")
+        if before and not is_of_another and lacks_staged(folder, repository):
+            tell("the repository lacks what was staged in the folder, as where it is another one: nothing is staged any "
+                 "more")
+            folder.index.unlink()
         if not folder.index.exists():
             folder.put("made", json.dumps(made).encode())
             make(folder, repository, top, about["tree"], found and found.commit or base_in(about))
@@ -472,6 +505,19 @@ def folder_for_git(about: Fields, top: str) -> GitFolder:
                 put_right(folder.path, before["at"], top, before["top"])
             folder.put("made", json.dumps(made).encode())
     return folder
+
+
+def lacks_staged(folder: GitFolder, repository: Repository) -> bool:
+    """Whether the index names what the repository lacks, which keeps it as long as it has its link here. A partial
+    clone lacks much; there Git tells what it can't have."""
+    link = pathlib.Path(os.path.realpath(repository.common_folder), "worktrees", link_name(folder.path))
+    if link.is_symlink() or not folder.has_index() or repository.remotes():
+        return False
+    rows = [row.split(b" ", 2) for row in folder.say("ls-files", "-sz")]
+    ids = {object_id for mode, object_id, _ in rows if mode != SUBMODULE}
+    done = subprocess.run(["git", "-C", repository.path, "cat-file", "--batch-check"], input=b"\n".join(ids) + b"\n",
+                          capture_output=True, env=environment())
+    return bool(ids) and (done.returncode != 0 or b" missing\n" in done.stdout)
 
 
 def base_in(about: Fields) -> str:

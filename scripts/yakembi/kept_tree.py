@@ -26,11 +26,8 @@ SECONDS_KEPT = 90 * 86_400
 
 def keep(repository: Repository, own_name: pathlib.Path, noted: Noted) -> None:
     """The repository keeps what is noted from now on. The overlay's own name lies in it."""
-    link = link_to(repository, own_name)
     with contextlib.suppress(OSError):
-        link.parent.mkdir(exist_ok=True)
-        if not link.is_symlink():
-            link.symlink_to(own_name)
+        link = lead(repository.common_folder, own_name)
         put(repository, link.name, TREE, noted.tree)
         keep_commit(repository, own_name, noted.commit)
         for other in link.parent.iterdir():
@@ -39,8 +36,9 @@ def keep(repository: Repository, own_name: pathlib.Path, noted: Noted) -> None:
 
 
 def keep_commit(repository: Repository, own_name: pathlib.Path, commit: str | None) -> None:
-    if commit is not None and link_to(repository, own_name).is_symlink():
-        put(repository, link_to(repository, own_name).name, COMMIT, commit)
+    link = link_to(repository.common_folder, own_name)
+    if commit is not None and link.is_symlink():
+        put(repository, link.name, COMMIT, commit)
 
 
 def put(repository: Repository, name: str, kind: str, object_id: str) -> None:
@@ -64,7 +62,7 @@ def is_lacked(repository: Repository, object_id: str) -> bool:
 def let_go(repository: Repository, own_name: pathlib.Path) -> None:
     """The overlay goes, and nobody needs for it what was kept."""
     with contextlib.suppress(OSError):
-        let_go_of(repository, link_to(repository, own_name))
+        let_go_of(repository, link_to(repository.common_folder, own_name))
 
 
 def let_go_of(repository: Repository, link: pathlib.Path) -> None:
@@ -73,9 +71,18 @@ def let_go_of(repository: Repository, link: pathlib.Path) -> None:
         forget(link)
 
 
-def link_to(repository: Repository, own_name: pathlib.Path) -> pathlib.Path:
+def lead(common: str, own_name: pathlib.Path) -> pathlib.Path:
+    """The repository's link to the overlay, made where it isn't there."""
+    link = link_to(common, own_name)
+    link.parent.mkdir(exist_ok=True)
+    if not link.is_symlink():
+        link.symlink_to(own_name)
+    return link
+
+
+def link_to(common: str, own_name: pathlib.Path) -> pathlib.Path:
     name = f"{name_for(own_name.parent)[:16]}-{own_name.name.rpartition('-')[2]}"
-    return pathlib.Path(repository.common_folder, LINKS, name)
+    return pathlib.Path(common, LINKS, name)
 
 
 # ---- links to overlays, these and those among the working trees

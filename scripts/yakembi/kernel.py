@@ -21,7 +21,7 @@ import time
 from collections.abc import Callable, Iterator, Mapping, Sequence
 from typing import TypeVar
 
-from yakembi.git import Refusal
+from yakembi.git import Refusal, said
 from yakembi.standing import standing_still
 
 CACHE_ENTRIES = 65_536
@@ -76,7 +76,7 @@ def mount_by_helper(folder: str) -> int:
         done = subprocess.run(words, env={**os.environ, "_FUSE_COMMFD": str(theirs.fileno())},
                               pass_fds=[theirs.fileno()], capture_output=True)
         if done.returncode != 0:
-            raise OSError(1, "fusermount3 couldn't mount it", folder)
+            raise OSError(1, f"fusermount3 couldn't mount it{said(done.stderr)}", folder)
         descriptors = array.array("i")
         _, rows, _, _ = ours.recvmsg(1, socket.CMSG_LEN(descriptors.itemsize))
         for level, kind, data in rows:

@@ -111,6 +111,7 @@ def overlay_at(path: str | None, repository: Repository) -> Iterator[OverlayFold
         if path is None:
             path = stack.enter_context(tempfile.TemporaryDirectory(prefix="mount-git."))
             stack.callback(GitFolder(path).unlink)
+            stack.callback(tell_of_unnamed, repository, GitFolder(path))
             stack.callback(kept_tree.let_go, repository, GitFolder(path).own_name())
         else:
             stack.callback(GitFolder(path).name_place)
@@ -119,6 +120,16 @@ def overlay_at(path: str | None, repository: Repository) -> Iterator[OverlayFold
         except InUse:
             raise Refusal(f"the overlay {path} is in use by another mount") from None
         yield stack.enter_context(contextlib.closing(overlay))
+
+
+def tell_of_unnamed(repository: Repository, folder: GitFolder) -> None:
+    """Tells of the commit on which a folder stands that goes, where no branch has it."""
+    found = folder.head_says(repository)
+    if found is not None and found.commit is not None:
+        words = ["for-each-ref", "--count=1", f"--contains={found.commit}", "refs/heads", "refs/remotes", "refs/tags"]
+        if repository.git(*words).stdout == b"":
+            where = shlex.quote(repository.path)
+            tell(f"no branch has the commit {found.commit}: git -C {where} branch NAME {found.commit} makes one")
 
 
 def tree_to_show(repository: Repository, revision: str, overlay: OverlayFolder) -> Noted:
@@ -272,6 +283,9 @@ class Asked:
         if found is not None and found.commit is not None:
             self.note(noted._replace(commit=found.commit))
         self.left = (found.left if found else None) or self.left
+        if found is None and noted.commit is not None and self.repository.commit_id(noted.commit) is None:
+            # As where the repository is another one, that has the tree.
+            return Stand(None, None)
         return found or Stand(noted.commit, self.branch)
 
     def is_git_at(self, tree: str) -> bool:
@@ -400,6 +414,8 @@ def show(words: argparse.Namespace, repository: Repository, noted: Noted, source
         with shown_till_the_end(showing), answering as turn, ends_told(overlay):
             with turn:
                 dot_git.renew(asked.git, asked.facts, showing)
+            if showing.is_ended:
+                raise Refusal("it was ended before it was mounted")
             print(f"mounted {folder}", flush=True)
             shown()
             with watched(asked, turn):

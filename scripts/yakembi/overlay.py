@@ -7,6 +7,7 @@ place. Each line is as long as the one before it, in one sector of a disk, and i
 is killed or fails, the old line or the new one is read.
 """
 
+import contextlib
 import errno
 import fcntl
 import os
@@ -46,6 +47,16 @@ def line_of(noted: Noted) -> bytes:
     end = f" {noted.commit}\n" if noted.commit else "\n"
     digits = NOTE_BYTES - len(noted.tree) - 1 - len(end)
     return f"{noted.tree} {noted.seconds:0{digits}}{end}".encode()
+
+
+def is_held(path: str | os.PathLike[str]) -> bool:
+    """Whether a mount has the overlay at that path."""
+    with contextlib.suppress(FileNotFoundError), open(os.path.join(path, NOTE), "rb") as note:
+        try:
+            fcntl.flock(note, fcntl.LOCK_SH | fcntl.LOCK_NB)
+        except OSError:
+            return True
+    return False
 
 
 class OverlayFolder:

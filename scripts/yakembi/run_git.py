@@ -23,6 +23,7 @@ from yakembi.folder_changes import Change, changes_in
 from yakembi.git import Refusal
 from yakembi.git_folder import GitFolder, folder_for_git, tell_of_left
 from yakembi.git_index import PROTOCOL
+from yakembi.overlay import is_held
 
 TOKEN = b"mount-git"
 # How long a mount may take from its first answer to a program until it answers us, and how long we wait between two
@@ -76,7 +77,7 @@ def fsmonitor(words: argparse.Namespace) -> None:
         # Git hands its settings to the one that it runs in a submodule or in another working tree.
         sys.exit(1)
     folder.name_place()
-    with contextlib.closing(connected(top)) as mount:
+    with contextlib.closing(connected(top, folder)) as mount:
         told = mount.ask("changes")
         if GitFolder(told["overlay"]).path != folder.path:
             raise Refusal(f"{top} shows another overlay than {folder.path.parent}")
@@ -91,14 +92,14 @@ def fsmonitor(words: argparse.Namespace) -> None:
     sys.stdout.flush()
 
 
-def connected(top: str) -> Connection:
-    """To the run that shows the folder, which may just begin."""
+def connected(top: str, folder: GitFolder) -> Connection:
+    """To the run that shows the folder over that overlay, which may just begin."""
     end = time.monotonic() + SECONDS_TO_BEGIN
     while True:
         try:
             return Connection(top)
         except Refusal:
-            if kernel.connection_of(top) is None or time.monotonic() > end:
+            if kernel.connection_of(top) is None or not is_held(folder.path.parent) or time.monotonic() > end:
                 raise
         time.sleep(SECONDS_BETWEEN)
 
