@@ -493,8 +493,8 @@ def folder_for_git(about: Fields, top: str) -> GitFolder:
             folder.begin(repository, base_in(about), about["branch"])
         folder.put("commondir", os.fsencode(repository.common_folder) + b"\n")
         if before and not is_of_another and lacks_staged(folder, repository):
-            tell("the repository lacks what was staged in the folder, as where it is another one: nothing is staged any "
-                 "more")
+            tell("the repository lacks what was staged in the folder, as where it is another one: "
+                 "nothing is staged any more")
             folder.index.unlink()
         if not folder.index.exists():
             folder.put("made", json.dumps(made).encode())
