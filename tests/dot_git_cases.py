@@ -147,7 +147,7 @@ class DotGit(cases.Case):
                     (mount.folder / name).write_text(f"{name} {words}")
                     check("staged", self.git(mount.folder, "add", "-A"), (0, ""))
                     if name == "plain.txt":
-                        check("a branch", self.git(mount.folder, *words or ["status", "-s"])[0], 0)
+                        check("a branch", self.git(mount.folder, *(words or ["status", "-s"]))[0], 0)
                         check("a commit", self.git(mount.folder, "commit", "-qm", "mine"), (0, ""))
             (first / "empty").write_text(f"a colleague's, {words}")
             git(first, "commit", "-qam", "a colleague's")
