@@ -139,7 +139,7 @@ class DotGit(cases.Case):
         """A repository that lacks what was committed and staged isn't changed by it, and Git works there."""
         first, self.repository = self.repository, self.folder / "clone"
         before = git(first, "rev-parse", "HEAD")
-        for words in ([], ["switch", "-q", "--detach"]):
+        for words in (["branch", "--show-current"], ["switch", "-q", "--detach"]):
             git(self.folder, "clone", "-q", str(first), str(self.repository))
             with self.mounted() as mount:
                 self.made(mount)
@@ -147,7 +147,7 @@ class DotGit(cases.Case):
                     (mount.folder / name).write_text(f"{name} {words}")
                     check("staged", self.git(mount.folder, "add", "-A"), (0, ""))
                     if name == "plain.txt":
-                        check("a branch", self.git(mount.folder, *(words or ["status", "-s"]))[0], 0)
+                        check("a branch", self.git(mount.folder, *words)[0], 0)
                         check("a commit", self.git(mount.folder, "commit", "-qm", "mine"), (0, ""))
             (first / "empty").write_text(f"a colleague's, {words}")
             git(first, "commit", "-qam", "a colleague's")
