@@ -444,6 +444,8 @@ def run(words: argparse.Namespace) -> None:
     repository = Repository(words.repository)
     folder = mount_point(words.folder)
     check_apart("overlay", words.overlay, folder)
+    if words.overlay is not None and not is_text(words.overlay):
+        raise Refusal("the overlay's path isn't UTF-8, as mountd's words are")
     check_apart("file", words.background, folder)
     shown = background.begin(words.background) if words.background else lambda: None
     with overlay_at(words.overlay, repository) as overlay:
