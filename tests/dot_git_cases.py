@@ -16,7 +16,10 @@ from helpers.git import environment
 from mount_folder import MountGit, asked_for, make_project, missing, said_by
 from programs import MOUNT_GIT
 from yakembi import kernel
+from yakembi.mount_git import SECONDS_BETWEEN_LOOKS
 
+# Who commits, and now.
+WHO = {name: value for name, value in AUTHOR.items() if not name.endswith("_DATE")}
 HOOK = f"{shlex.quote(sys.executable)} {shlex.quote(str(MOUNT_GIT))} fsmonitor"
 
 
@@ -39,7 +42,7 @@ class DotGit(cases.Case):
         check("--dot-git", mount_git("git", "--dot-git", mount.folder), (0, "", ""))
 
     def git(self, at: pathlib.Path, *words: str) -> tuple[int, str]:
-        done = subprocess.run(["git", *words], capture_output=True, cwd=at, env={**environment(), **AUTHOR})
+        done = subprocess.run(["git", *words], capture_output=True, cwd=at, env={**environment(), **WHO})
         check(f"git {words[0]} says nothing more", done.stderr, b"")
         return done.returncode, os.fsdecode(done.stdout).strip()
 
@@ -163,6 +166,57 @@ class DotGit(cases.Case):
             shutil.rmtree(self.overlay)
             shutil.rmtree(self.repository)
             before = git(first, "rev-parse", "HEAD")
+
+    def test_moved_and_cleaned(self) -> None:
+        """What was staged a moved repository doesn't keep before the next mount; then it is a change as it was."""
+        with self.mounted() as mount:
+            self.made(mount)
+            (mount.folder / "staged").write_text("staged")
+            check("staged", self.git(mount.folder, "add", "-A"), (0, ""))
+        self.repository = self.repository.rename(self.folder / "moved")
+        git(self.repository, "gc", "-q", "--prune=now")
+        with self.mounted() as mount:
+            check("told", ["nothing is staged any more" in line for line in mount.said()], [True])
+            check("a change", self.git(mount.folder, "status", "--porcelain"), (0, "?? staged"))
+            check("staged again", self.git(mount.folder, "add", "-A"), (0, ""))
+            check("a commit", self.git(mount.folder, "commit", "-qm", "mine"), (0, ""))
+            check("gc", self.git(self.repository, "gc", "-q", "--prune=now"), (0, ""))
+
+    def test_clone_elsewhere(self) -> None:
+        """A clone at another place lacks the branch and its commits: there the folder stands on what it has."""
+        first, second = self.folder / "first", self.folder / "second"
+        for clone in (first, second):
+            git(self.folder, "clone", "-q", str(self.repository), str(clone))
+        for words in (["switch", "-qc", "topic"], ["switch", "-q", "--detach"]):
+            self.repository = first
+            before = git(first, "rev-parse", "HEAD")
+            with self.mounted() as mount:
+                self.made(mount)
+                check("a branch", self.git(mount.folder, *words), (0, ""))
+                (mount.folder / "plain.txt").write_text(f"mine {words}")
+                check("a commit", self.git(mount.folder, "commit", "-qam", "mine"), (0, ""))
+            self.repository = second
+            with self.mounted() as mount:
+                told = self.git(mount.folder, "status", "--porcelain", "-b")
+                check("a change", told, (0, "## HEAD (no branch)\n M plain.txt"))
+                check("where it stands", self.git(mount.folder, "rev-parse", "HEAD"), (0, before))
+                check("told", sum("on no branch" in line for line in mount.said()), 1)
+            shutil.rmtree(self.overlay)
+
+    def test_undone(self) -> None:
+        """A branch that is taken away in the folder, as to undo a first commit, stays away; a renamed one is followed.
+        """
+        with self.mounted() as mount:
+            self.made(mount)
+            time.sleep(2 * SECONDS_BETWEEN_LOOKS)
+            check("taken away", self.git(mount.folder, "update-ref", "-d", "HEAD"), (0, ""))
+            time.sleep(2 * SECONDS_BETWEEN_LOOKS)
+            check("the branch", self.git(mount.folder, "symbolic-ref", "--short", "HEAD"), (0, self.short))
+            check("a commit", self.git(mount.folder, "commit", "-qam", "again"), (0, ""))
+            check("the first", self.git(mount.folder, "rev-list", "--count", "HEAD"), (0, "1"))
+            check("renamed", self.git(mount.folder, "branch", "-m", "other"), (0, ""))
+            time.sleep(2 * SECONDS_BETWEEN_LOOKS)
+            check("the branch then", self.git(mount.folder, "symbolic-ref", "--short", "HEAD"), (0, "other"))
 
     def test_unnamed(self) -> None:
         """Without an overlay a commit that no branch has is named at the end."""

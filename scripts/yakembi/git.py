@@ -77,6 +77,20 @@ class Repository:
         if names.stdout.strip() != b"sha1":
             raise Refusal(f"{path} names its objects by {names.stdout.decode().strip() or 'something'}, not by SHA-1")
 
+    def check(self) -> None:
+        """A Refusal, where it isn't there any more."""
+        if self.git("rev-parse", "--git-dir").returncode != 0:
+            raise Refusal(f"{self.path} isn't a Git repository any more")
+
+    def known(self, ids: set[str]) -> set[str]:
+        """Those objects that it has, all of them if that can't be told."""
+        done = subprocess.run(["git", "-C", self.path, "cat-file", "--batch-check"], capture_output=True,
+                              input="".join(f"{object_id}\n" for object_id in ids).encode(), env=environment())
+        if done.returncode != 0:
+            return ids
+        rows = [row.split() for row in done.stdout.decode().splitlines()]
+        return {row[0] for row in rows if row[-1:] != ["missing"]}
+
     def git(self, *words: str) -> subprocess.CompletedProcess[bytes]:
         return subprocess.run(["git", "-C", self.path, *words], stdin=subprocess.DEVNULL, capture_output=True,
                               env=environment())

@@ -29,6 +29,7 @@ from yakembi import git_index
 from yakembi.control import Fields, name_for, tell
 from yakembi.git import DOT_GIT, SUBMODULE, Refusal, Repository, environment, said
 from yakembi.kept_tree import forget, is_forgotten, lead
+from yakembi.partial_clone import known_here
 from yakembi.submodules import put_right
 
 SCRIPT = pathlib.Path(__file__).resolve().parent.parent / "mount-git"
@@ -166,24 +167,42 @@ class GitFolder:
         if found is not None and found.commit is None and self.stood_on(found):
             # As while Git renames the branch.
             time.sleep(SECONDS_OF_A_RENAME)
-        if self.stood_at(repository) is not None:
+        if self.stood_at(found) is not None:
             # Git holds HEAD from before it moves the branch until the log says so.
             with self.held("HEAD"):
-                found, stood = self.head_says(repository), self.stood_at(repository)
+                found = self.head_says(repository)
+                stood = self.stood_at(found)
                 if stood is not None:
-                    known = next((commit for commit in [stood, *self.stood_before()] if repository.commit_id(commit)),
-                                 None)
+                    known = self.left_at(repository, [stood])
                     if known is None:
                         raise Refusal(f"the repository lacks {stood}, on which the folder stood, and all before it")
-                    self.write_head(known.encode() + b"\n")
                     found = Stand(known, None, found.branch if found and known == stood else stood)
         if found is not None:
             self.put("seen", json.dumps([found.commit, found.branch, self.logged()[-1:]]).encode())
         return found
 
-    def stood_at(self, repository: Repository) -> str | None:
-        """The commit that the folder stood on, where that isn't any more what HEAD says; None where it is."""
-        found = self.head_says(repository)
+    def left_at(self, repository: Repository, commits: list[str]) -> str | None:
+        """Puts HEAD, which is held, on no branch: on the first of these commits that the repository knows, or else on
+        the last of its log. None, where it knows none, or nothing at all, as where it is away.
+
+        What it lacks its log tells no more, or Git would miss that.
+        """
+        repository.check()
+        lines = self.log.read_bytes().splitlines() if self.log.exists() else []
+        ids = {line[:81].decode(errors="replace") for line in lines}
+        there = known_here(repository, {*commits, *" ".join(ids).split()}) | {NO_COMMIT}
+        known = next((commit for commit in [*commits, *self.stood_before()] if commit in there), None)
+        if known is not None:
+            if not set(" ".join(ids).split()) <= there:
+                kept = [line for line in lines if set(line[:81].decode(errors="replace").split()) <= there]
+                line = f"{known} {known} ".encode() + who(repository) + b"\tmount-git"
+                self.put("logs/HEAD", b"\n".join([*kept, line, b""]))
+            self.write_head(known.encode() + b"\n")
+        return known
+
+    def stood_at(self, found: Stand | None) -> str | None:
+        """The commit that the folder stood on, where that isn't any more what HEAD says, as it was found; None where it
+        is."""
         if found is not None:
             return self.stood_on(found)
         with contextlib.suppress(OSError):
@@ -216,6 +235,8 @@ class GitFolder:
         last = lines[-1].split()[0] if lines else None
         if found.branch is None or found.commit is not None and found.commit == last:
             return None
+        if found.commit is None and self.is_undone():
+            return None
         try:
             commit, branch, seen = json.loads(self.seen.read_bytes())
         except (OSError, TypeError, ValueError):
@@ -238,6 +259,12 @@ class GitFolder:
         branch = os.fsdecode(named[1] or b"HEAD") if named else "HEAD"
         places = [self.log, *(pathlib.Path(repository.common_folder, name) for name in (branch, "packed-refs"))]
         return said, *map(sign_of, places)
+
+    def is_undone(self) -> bool:
+        """Whether the last that was done here was to take the branch away."""
+        with contextlib.suppress(OSError, IndexError):
+            return self.log.read_bytes().splitlines()[-1][41:81] == NO_COMMIT.encode()
+        return False
 
     def logged(self) -> list[str]:
         """The lines of HEAD's log, from the commit on to which each leads, but those that lead to none. What stands
@@ -271,18 +298,27 @@ class GitFolder:
             os.fsync(file.fileno())
         (self.path / "HEAD.new").replace(self.head)
 
-    def adopt(self, repository: Repository) -> None:
+    def adopt(self, repository: Repository, commit: str | None) -> str | None:
         """It is of this repository, which may have been moved, or be another one: what HEAD says stays if that has it.
+        Else the folder stands on no branch, at that commit or one before it that it has; what HEAD said is given.
         """
         made = self.made_for()
         if made.get("of") == repository.common_folder:
-            return
+            return None
         self.unlink()
+        left = None
         with self.lock():
-            if self.head_says(repository) is None:
-                self.head.unlink(missing_ok=True)
+            if self.head_says(repository) is None and self.head.exists():
+                with self.held("HEAD"):
+                    said = HEAD.fullmatch(self.head.read_bytes())
+                    stood = said[2].decode() if said and said[2] else None
+                    if self.left_at(repository, [known for known in (stood, commit) if known is not None]) is None:
+                        self.head.unlink()
+                    elif said:
+                        left = os.fsdecode(said[1] or said[2])
             self.put("commondir", os.fsencode(repository.common_folder) + b"\n")
             self.put("made", json.dumps({**made, "of": repository.common_folder}).encode())
+        return left
 
     def begin(self, repository: Repository, commit: str, branch: str | None) -> None:
         """The first HEAD, and its log: the branch, where it is at the commit, and else the commit."""
@@ -495,7 +531,8 @@ def folder_for_git(about: Fields, top: str) -> GitFolder:
         if before and not is_of_another and lacks_staged(folder, repository):
             tell("the repository lacks what was staged in the folder, as where it is another one: "
                  "nothing is staged any more")
-            folder.index.unlink()
+            for name in ("index", "MERGE_HEAD", "CHERRY_PICK_HEAD", "REVERT_HEAD"):
+                (folder.path / name).unlink(missing_ok=True)
         if not folder.index.exists():
             folder.put("made", json.dumps(made).encode())
             make(folder, repository, top, about["tree"], found and found.commit or base_in(about))
@@ -511,13 +548,12 @@ def lacks_staged(folder: GitFolder, repository: Repository) -> bool:
     """Whether the index names what the repository lacks, which keeps it as long as it has its link here. A partial
     clone lacks much; there Git tells what it can't have."""
     link = pathlib.Path(os.path.realpath(repository.common_folder), "worktrees", link_name(folder.path))
-    if link.is_symlink() or not folder.has_index() or repository.remotes():
+    is_kept = link.exists() or not os.access(repository.objects_folder, os.W_OK)
+    if is_kept or not folder.has_index() or repository.remotes():
         return False
     rows = [row.split(b" ", 2) for row in folder.say("ls-files", "-sz")]
-    ids = {object_id for mode, object_id, _ in rows if mode != SUBMODULE}
-    done = subprocess.run(["git", "-C", repository.path, "cat-file", "--batch-check"], input=b"\n".join(ids) + b"\n",
-                          capture_output=True, env=environment())
-    return bool(ids) and (done.returncode != 0 or b" missing\n" in done.stdout)
+    ids = {object_id.decode() for mode, object_id, _ in rows if mode != SUBMODULE}
+    return not ids <= known_here(repository, ids)
 
 
 def base_in(about: Fields) -> str:

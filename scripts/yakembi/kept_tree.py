@@ -13,7 +13,7 @@ import time
 from yakembi.control import name_for, tell
 from yakembi.git import Repository, said
 from yakembi.overlay import Noted
-from yakembi.partial_clone import Plain
+from yakembi.partial_clone import known_here
 
 REFS = "refs/mount-git/"
 TREE, COMMIT = "tree", "commit"
@@ -42,21 +42,12 @@ def keep_commit(repository: Repository, own_name: pathlib.Path, commit: str | No
 
 
 def put(repository: Repository, name: str, kind: str, object_id: str) -> None:
-    if repository.remotes() and is_lacked(repository, object_id):
-        # A partial clone keeps by itself what it is given.
+    if object_id not in known_here(repository, {object_id}):
+        # A partial clone keeps by itself what it is given, and another repository has nothing of it.
         return
     done = repository.git("-c", "core.logAllRefUpdates=false", "update-ref", f"{REFS}{name}/{kind}", object_id)
     if done.returncode != 0:
         tell(f"git gc may take what the overlay stands on{said(done.stderr)}")
-
-
-def is_lacked(repository: Repository, object_id: str) -> bool:
-    """Whether a partial clone would have to fetch it."""
-    here = Plain(repository)
-    try:
-        return here.absent([object_id]) != []
-    finally:
-        here.end()
 
 
 def let_go(repository: Repository, own_name: pathlib.Path) -> None:

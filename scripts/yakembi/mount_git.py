@@ -44,8 +44,9 @@ MOUNTD = os.environ.get("MOUNTD", BESIDE)
 SECONDS_LOCKED = 10
 # As many requests are answered at once where objects may have to be fetched from elsewhere, and nobody says how many.
 THREADS = 4
-# How long a branch that was moved from elsewhere may go unnoticed.
-SECONDS_BETWEEN_LOOKS = 0.5
+# How long a branch that was moved from elsewhere may go unnoticed, and where nothing can be said, as while the
+# repository is away.
+SECONDS_BETWEEN_LOOKS, MOST_BETWEEN_LOOKS = 0.5, 30.0
 # How long git-objects may take to end.
 SECONDS_TO_END = 10
 UNOPENED = {
@@ -123,11 +124,11 @@ def overlay_at(path: str | None, repository: Repository) -> Iterator[OverlayFold
 
 
 def tell_of_unnamed(repository: Repository, folder: GitFolder) -> None:
-    """Tells of the commit on which a folder stands that goes, where no branch has it."""
+    """Tells of the commit that was made in a folder that goes, where no branch has it."""
     found = folder.head_says(repository)
-    if found is not None and found.commit is not None:
-        words = ["for-each-ref", "--count=1", f"--contains={found.commit}", "refs/heads", "refs/remotes", "refs/tags"]
-        if repository.git(*words).stdout == b"":
+    if found is not None and found.commit is not None and found.branch is None and len(folder.logged()) > 1:
+        done = repository.git("rev-list", "-n1", found.commit, "--not", "--branches", "--remotes", "--tags")
+        if done.returncode == 0 and done.stdout.decode().strip() == found.commit:
             where = shlex.quote(repository.path)
             tell(f"no branch has the commit {found.commit}: git -C {where} branch NAME {found.commit} makes one")
 
@@ -154,7 +155,7 @@ def tree_to_show(repository: Repository, revision: str, overlay: OverlayFolder) 
     if root != tree and not stands_there(repository, overlay, noted, named.commit, repository.branch_of(revision)):
         tell(f"{revision} is the tree {tree}, but the overlay stands on {root}, and that is shown; "
              "another tree wants another overlay")
-    if noted.commit is None and root == tree:
+    if root == tree and (noted.commit is None or repository.commit_id(noted.commit) is None):
         noted = noted._replace(commit=named.commit)
     overlay.write_note(noted)
     return noted
@@ -278,7 +279,7 @@ class Asked:
         """What the folder stands on, and where it isn't on a branch any more, that is kept until it is told."""
         noted, found = self.noted(), None
         if self.is_git_at(noted.tree):
-            self.git.adopt(self.repository)
+            self.left = self.git.adopt(self.repository, noted.commit) or self.left
             found = self.git.stands_on(self.repository)
         if found is not None and found.commit is not None:
             self.note(noted._replace(commit=found.commit))
@@ -367,13 +368,15 @@ def watched(asked: Asked, turn: threading.Lock) -> Iterator[None]:
     done = threading.Event()
     def watch() -> None:
         seen: tuple[object, ...] = ()
-        while not done.wait(SECONDS_BETWEEN_LOOKS):
+        pause = SECONDS_BETWEEN_LOOKS
+        while not done.wait(pause):
             signs = asked.git.signs(asked.repository)
+            # What can't be looked at now is looked at again, and ever more seldom.
+            pause = min(2 * pause, MOST_BETWEEN_LOOKS) if signs != seen else SECONDS_BETWEEN_LOOKS
             if signs != seen:
-                # What can't be looked at now is looked at again.
                 with contextlib.suppress(Refusal, OSError), turn:
                     asked.look()
-                    seen = signs
+                    seen, pause = signs, SECONDS_BETWEEN_LOOKS
     watching = threading.Thread(target=watch, daemon=True)
     watching.start()
     try:
@@ -415,6 +418,7 @@ def show(words: argparse.Namespace, repository: Repository, noted: Noted, source
             with turn:
                 dot_git.renew(asked.git, asked.facts, showing)
             if showing.is_ended:
+                showing.wait()
                 raise Refusal("it was ended before it was mounted")
             print(f"mounted {folder}", flush=True)
             shown()

@@ -12,6 +12,7 @@ import errno
 import fcntl
 import os
 import re
+import time
 from typing import NamedTuple
 
 NOTE = "mount-git"
@@ -27,6 +28,10 @@ HEADER = 64
 FILE_HEADS = b"OVFL\0\0\0\1", b"OVFL\0\0\0\2"
 STATE = "0"
 ID = 20
+
+
+# Who asks whether a mount has an overlay has its lock for a moment.
+TRIES, SECONDS_BETWEEN = 10, 0.01
 
 
 class InUse(Exception):
@@ -67,11 +72,13 @@ class OverlayFolder:
         self.path = os.path.abspath(path)
         self.place = os.open(self.path, os.O_PATH | os.O_DIRECTORY | os.O_CLOEXEC)
         self.note = os.open(os.path.join(self.path, NOTE), os.O_RDWR | os.O_CREAT | os.O_CLOEXEC, 0o666)
-        try:
-            fcntl.flock(self.note, fcntl.LOCK_EX | fcntl.LOCK_NB)
-        except OSError:
-            self.close()
-            raise InUse from None
+        for _ in range(TRIES):
+            with contextlib.suppress(OSError):
+                fcntl.flock(self.note, fcntl.LOCK_EX | fcntl.LOCK_NB)
+                return
+            time.sleep(SECONDS_BETWEEN)
+        self.close()
+        raise InUse
 
     def close(self) -> None:
         os.close(self.note)

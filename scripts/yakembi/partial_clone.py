@@ -118,6 +118,19 @@ class Want:
         self.over.set()
 
 
+def known_here(repository: Repository, ids: set[str]) -> set[str]:
+    """Those objects that are there, of which nothing is fetched; all of them if that can't be told."""
+    if not repository.remotes():
+        return repository.known(ids)
+    here = Plain(repository)
+    try:
+        return ids - set(here.absent(sorted(ids)))
+    except Unanswered:
+        return ids
+    finally:
+        here.end()
+
+
 class PartialClone:
     """What git-objects serves of a partial clone. Any thread may call it.
 
