@@ -201,7 +201,43 @@ class DotGit(cases.Case):
                 check("a change", told, (0, "## HEAD (no branch)\n M plain.txt"))
                 check("where it stands", self.git(mount.folder, "rev-parse", "HEAD"), (0, before))
                 check("told", sum("on no branch" in line for line in mount.said()), 1)
+                check("gc", self.git(second, "gc", "-q", "--prune=now"), (0, ""))
             shutil.rmtree(self.overlay)
+
+    def test_clone_that_lacks_trees(self) -> None:
+        """A clone that has all files of what was committed, and not the trees, nor what was merged just now."""
+        first, second = self.folder / "first", self.folder / "second"
+        for clone in (first, second):
+            git(self.folder, "clone", "-q", str(self.repository), str(clone))
+        side = git(first, "commit-tree", "HEAD^{tree}", "-p", "HEAD", "-m", "side")
+        self.repository = first
+        with self.mounted() as mount:
+            self.made(mount)
+            for words in (["mv", "plain.txt", "notes/plain.txt"], ["commit", "-qm", "moved"]):
+                check("in the first", self.git(mount.folder, *words), (0, ""))
+            merged = subprocess.run(["git", "merge", "--no-commit", "--no-ff", side], capture_output=True,
+                                    cwd=mount.folder, env={**environment(), **WHO})
+            check("a merge", merged.returncode, 0)
+        self.repository = second
+        with self.mounted() as mount:
+            check("the merge is told", sum("the merge is given up" in line for line in mount.said()), 1)
+            check("gc", self.git(second, "gc", "-q", "--prune=now"), (0, ""))
+            check("a commit", self.git(mount.folder, "commit", "-qam", "mine"), (0, ""))
+            check("on one", len(self.git(mount.folder, "rev-list", "--parents", "-n1", "HEAD")[1].split()), 2)
+
+    def test_odd_logs(self) -> None:
+        """Lines of HEAD's log that are none, as a full disk leaves them, say nothing."""
+        with self.mounted() as mount:
+            self.made(mount)
+            for text in (b"x \xff\xfe foo\n", b"\n", b"x \x1c\n", b"0" * 60):
+                time.sleep(2 * SECONDS_BETWEEN_LOOKS)
+                with open(self.overlay / "git/logs/HEAD", "ab") as log:
+                    log.write(text)
+                self.check_found(mount, f"## {self.short}")
+            time.sleep(2 * SECONDS_BETWEEN_LOOKS)
+            check("nothing is said", mount.said(), [])
+        with self.mounted() as mount:
+            self.check_found(mount, f"## {self.short}")
 
     def test_undone(self) -> None:
         """A branch that is taken away in the folder, as to undo a first commit, stays away; a renamed one is followed.

@@ -28,7 +28,7 @@ from typing import NamedTuple
 from yakembi import git_index
 from yakembi.control import Fields, name_for, tell
 from yakembi.git import DOT_GIT, SUBMODULE, Refusal, Repository, environment, said
-from yakembi.kept_tree import forget, is_forgotten, lead
+from yakembi.kept_tree import LINKS, forget, is_forgotten, lead
 from yakembi.partial_clone import known_here
 from yakembi.submodules import put_right
 
@@ -49,6 +49,8 @@ SECONDS_OF_A_RENAME = 0.2
 # What HEAD says: a branch, or a commit.
 HEAD = re.compile(rb"(?:ref: (refs/.+)|([0-9a-f]{40}))\n?")
 NO_COMMIT = "0" * 40
+# How a line of a log begins.
+LOGGED = re.compile(rb"[0-9a-f]{40} [0-9a-f]{40} ")
 # How the names of our links begin among the repository's working trees.
 LINK = "mount-git-"
 # What means something in a pattern. Git finds no section again whose name has a bracket: any character stands for it.
@@ -56,6 +58,11 @@ SPECIAL, BRACKET = re.compile(r"[*?\\]"), re.compile(r"[][]")
 # What Git has in its folder while it is in the middle of something that ends in a commit.
 UNDER_WAY = {"MERGE_HEAD": "merge", "CHERRY_PICK_HEAD": "cherry-pick", "REVERT_HEAD": "revert",
              "rebase-merge": "rebase", "rebase-apply": "rebase", "sequencer": "cherry-pick"}
+
+
+# Those that name commits, and what goes with them.
+MERGED = "MERGE_HEAD", "CHERRY_PICK_HEAD", "REVERT_HEAD"
+BESIDE_MERGED = "MERGE_MSG", "MERGE_MODE", "AUTO_MERGE", "SQUASH_MSG"
 
 
 class Stand(NamedTuple):
@@ -188,13 +195,13 @@ class GitFolder:
         What it lacks its log tells no more, or Git would miss that.
         """
         repository.check()
-        lines = self.log.read_bytes().splitlines() if self.log.exists() else []
-        ids = {line[:81].decode(errors="replace") for line in lines}
-        there = known_here(repository, {*commits, *" ".join(ids).split()}) | {NO_COMMIT}
+        lines = self.log.read_bytes().split(b"\n")[:-1] if self.log.exists() else []
+        ids = {line: set(line[:81].decode().split()) for line in lines if LOGGED.match(line)}
+        there = known_here(repository, set(commits).union(*ids.values())) | {NO_COMMIT}
         known = next((commit for commit in [*commits, *self.stood_before()] if commit in there), None)
         if known is not None:
-            if not set(" ".join(ids).split()) <= there:
-                kept = [line for line in lines if set(line[:81].decode(errors="replace").split()) <= there]
+            kept = [line for line in lines if ids.get(line, set()) <= there]
+            if kept != lines:
                 line = f"{known} {known} ".encode() + who(repository) + b"\tmount-git"
                 self.put("logs/HEAD", b"\n".join([*kept, line, b""]))
             self.write_head(known.encode() + b"\n")
@@ -263,15 +270,17 @@ class GitFolder:
     def is_undone(self) -> bool:
         """Whether the last that was done here was to take the branch away."""
         with contextlib.suppress(OSError, IndexError):
-            return self.log.read_bytes().splitlines()[-1][41:81] == NO_COMMIT.encode()
+            return self.log.read_bytes().split(b"\n")[-2][41:81] == NO_COMMIT.encode()
         return False
 
     def logged(self) -> list[str]:
         """The lines of HEAD's log, from the commit on to which each leads, but those that lead to none. What stands
         before that Git writes anew where it takes lines out."""
         with contextlib.suppress(OSError):
-            lines = [line.partition(b" ")[2].strip() for line in self.log.read_bytes().splitlines()]
-            return [os.fsdecode(line) for line in lines if line and not line.startswith(NO_COMMIT.encode())]
+            # What a full disk or a kill cut is no line.
+            lines = [line.partition(b" ")[2].strip() for line in self.log.read_bytes().split(b"\n")
+                     if LOGGED.match(line)]
+            return [os.fsdecode(line) for line in lines if not line.startswith(NO_COMMIT.encode())]
         return []
 
     @contextlib.contextmanager
@@ -312,10 +321,10 @@ class GitFolder:
                 with self.held("HEAD"):
                     said = HEAD.fullmatch(self.head.read_bytes())
                     stood = said[2].decode() if said and said[2] else None
-                    if self.left_at(repository, [known for known in (stood, commit) if known is not None]) is None:
-                        self.head.unlink()
-                    elif said:
+                    if said and self.left_at(repository, [known for known in (stood, commit) if known is not None]):
                         left = os.fsdecode(said[1] or said[2])
+                    else:
+                        self.head.unlink()
             self.put("commondir", os.fsencode(repository.common_folder) + b"\n")
             self.put("made", json.dumps({**made, "of": repository.common_folder}).encode())
         return left
@@ -359,6 +368,15 @@ class GitFolder:
                     self.say("update-index", "-q", "--refresh", fsmonitor=git_index.NOTHING_CHANGED, index=written)
                 written.replace(self.index)
             (self.path / "SQUASH_MSG").unlink(missing_ok=True)
+
+    def without_caches(self) -> None:
+        """The index names no trees, and nothing that was in conflict."""
+        written = self.path / "index.new"
+        written.write_bytes(self.index.read_bytes())
+        with contextlib.suppress(Refusal):
+            for words in (["update-index", "--clear-resolve-undo"], ["write-tree"]):
+                self.say(*words, fsmonitor=git_index.NOTHING_CHANGED, index=written)
+        written.replace(self.index)
 
     def hold_at(self, top: str) -> None:
         """The index holds for the folder now that it is mounted there. Where it has no cache to be told so, Git looks
@@ -528,11 +546,8 @@ def folder_for_git(about: Fields, top: str) -> GitFolder:
         if found is None:
             folder.begin(repository, base_in(about), about["branch"])
         folder.put("commondir", os.fsencode(repository.common_folder) + b"\n")
-        if before and not is_of_another and lacks_staged(folder, repository):
-            tell("the repository lacks what was staged in the folder, as where it is another one: "
-                 "nothing is staged any more")
-            for name in ("index", "MERGE_HEAD", "CHERRY_PICK_HEAD", "REVERT_HEAD"):
-                (folder.path / name).unlink(missing_ok=True)
+        if before and not is_of_another and not is_kept(folder, repository, before["of"]):
+            fit_in(folder, repository)
         if not folder.index.exists():
             folder.put("made", json.dumps(made).encode())
             make(folder, repository, top, about["tree"], found and found.commit or base_in(about))
@@ -544,16 +559,35 @@ def folder_for_git(about: Fields, top: str) -> GitFolder:
     return folder
 
 
-def lacks_staged(folder: GitFolder, repository: Repository) -> bool:
-    """Whether the index names what the repository lacks, which keeps it as long as it has its link here. A partial
-    clone lacks much; there Git tells what it can't have."""
+def is_kept(folder: GitFolder, repository: Repository, was_of: str) -> bool:
+    """Whether the repository, by its link, kept all that the index names. A partial clone lacks much all the same, and
+    Git tells then what it can't have."""
     link = pathlib.Path(os.path.realpath(repository.common_folder), "worktrees", link_name(folder.path))
-    is_kept = link.exists() or not os.access(repository.objects_folder, os.W_OK)
-    if is_kept or not folder.has_index() or repository.remotes():
-        return False
+    ours = os.path.join(os.path.realpath(repository.common_folder), LINKS, "")
+    if repository.remotes() or not folder.has_index():
+        return True
+    if was_of == repository.common_folder and not os.access(repository.objects_folder, os.W_OK):
+        return True
+    return link.exists() and os.readlink(link).startswith(ours)
+
+
+def fit_in(folder: GitFolder, repository: Repository) -> None:
+    """The index, and what Git is in the middle of, name nothing that the repository lacks, which Git would miss."""
     rows = [row.split(b" ", 2) for row in folder.say("ls-files", "-sz")]
     ids = {object_id.decode() for mode, object_id, _ in rows if mode != SUBMODULE}
-    return not ids <= known_here(repository, ids)
+    if ids <= known_here(repository, ids):
+        folder.without_caches()
+    else:
+        tell("the repository lacks what was staged in the folder, as where it is another one: "
+             "nothing is staged any more")
+        folder.index.unlink()
+    for name in MERGED:
+        file = folder.path / name
+        named = set(file.read_text(errors="replace").split()) if file.exists() else set()
+        if not named <= known_here(repository, named):
+            tell(f"the repository lacks what was merged in the folder: the {UNDER_WAY[name]} is given up")
+            for gone in (name, *BESIDE_MERGED):
+                (folder.path / gone).unlink(missing_ok=True)
 
 
 def base_in(about: Fields) -> str:

@@ -126,9 +126,9 @@ def overlay_at(path: str | None, repository: Repository) -> Iterator[OverlayFold
 def tell_of_unnamed(repository: Repository, folder: GitFolder) -> None:
     """Tells of the commit that was made in a folder that goes, where no branch has it."""
     found = folder.head_says(repository)
-    if found is not None and found.commit is not None and found.branch is None and len(folder.logged()) > 1:
+    if found is not None and found.commit is not None and found.branch is None and len(folder.logged()) != 1:
         done = repository.git("rev-list", "-n1", found.commit, "--not", "--branches", "--remotes", "--tags")
-        if done.returncode == 0 and done.stdout.decode().strip() == found.commit:
+        if done.returncode != 0 or done.stdout.decode().strip() == found.commit:
             where = shlex.quote(repository.path)
             tell(f"no branch has the commit {found.commit}: git -C {where} branch NAME {found.commit} makes one")
 
@@ -368,15 +368,18 @@ def watched(asked: Asked, turn: threading.Lock) -> Iterator[None]:
     done = threading.Event()
     def watch() -> None:
         seen: tuple[object, ...] = ()
-        pause = SECONDS_BETWEEN_LOOKS
-        while not done.wait(pause):
+        failed: tuple[object, ...] | None = None
+        pause, again = 0.0, 0.0
+        while not done.wait(SECONDS_BETWEEN_LOOKS):
             signs = asked.git.signs(asked.repository)
-            # What can't be looked at now is looked at again, and ever more seldom.
-            pause = min(2 * pause, MOST_BETWEEN_LOOKS) if signs != seen else SECONDS_BETWEEN_LOOKS
-            if signs != seen:
-                with contextlib.suppress(Refusal, OSError), turn:
-                    asked.look()
-                    seen, pause = signs, SECONDS_BETWEEN_LOOKS
+            # What can't be looked at as it is now is looked at again, and ever more seldom.
+            if signs == seen or signs == failed and time.monotonic() < again:
+                continue
+            pause = min(2 * pause, MOST_BETWEEN_LOOKS) if signs == failed else SECONDS_BETWEEN_LOOKS
+            failed, again = signs, time.monotonic() + pause
+            with contextlib.suppress(Refusal, OSError), turn:
+                asked.look()
+                seen, failed = signs, None
     watching = threading.Thread(target=watch, daemon=True)
     watching.start()
     try:

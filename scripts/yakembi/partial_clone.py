@@ -10,6 +10,7 @@ else. So a remote that fails costs what is asked for alone.
 import contextlib
 import itertools
 import os
+import re
 import subprocess
 import tempfile
 import threading
@@ -118,8 +119,13 @@ class Want:
         self.over.set()
 
 
+ID = re.compile("[0-9a-f]{40}")
+
+
 def known_here(repository: Repository, ids: set[str]) -> set[str]:
-    """Those objects that are there, of which nothing is fetched; all of them if that can't be told."""
+    """Those objects that are there, of which nothing is fetched; all of them if that can't be told. What is no id is
+    none."""
+    ids = {object_id for object_id in ids if ID.fullmatch(object_id)}
     if not repository.remotes():
         return repository.known(ids)
     here = Plain(repository)
