@@ -38,6 +38,7 @@ SCRIPT = pathlib.Path(__file__).resolve().parent.parent / "mount-git"
 SETTINGS = {"core.fsmonitor": f"{shlex.quote(sys.executable)} {shlex.quote(str(SCRIPT))} fsmonitor",
             "core.fsmonitorHookVersion": git_index.PROTOCOL, "core.untrackedCache": "keep",
             "core.sparseCheckout": "false", "core.logAllRefUpdates": "true", "core.preferSymlinkRefs": "false"}
+# What `made` says.
 MADE_FOR = "top", "tree", "of", "at"
 # An index begins so (Git's index format).
 INDEX_HEAD = b"DIRC"
@@ -58,8 +59,6 @@ SPECIAL, BRACKET = re.compile(r"[*?\\]"), re.compile(r"[][]")
 # What Git has in its folder while it is in the middle of something that ends in a commit.
 UNDER_WAY = {"MERGE_HEAD": "merge", "CHERRY_PICK_HEAD": "cherry-pick", "REVERT_HEAD": "revert",
              "rebase-merge": "rebase", "rebase-apply": "rebase", "sequencer": "cherry-pick"}
-
-
 # Those that name commits, and what goes with them.
 MERGED = "MERGE_HEAD", "CHERRY_PICK_HEAD", "REVERT_HEAD"
 BESIDE_MERGED = "MERGE_MSG", "MERGE_MODE", "AUTO_MERGE", "SQUASH_MSG"
@@ -92,7 +91,7 @@ class GitFolder:
             os.close(descriptor)
 
     def put(self, name: str, content: bytes) -> None:
-        """A file of that content, old or new whatever happens meanwhile."""
+        """A file of that content, old or new whatever happens meanwhile. It waits for the disk, as Git does."""
         file = self.path / name
         with contextlib.suppress(FileNotFoundError):
             if file.read_bytes() == content:
@@ -204,7 +203,7 @@ class GitFolder:
             if kept != lines:
                 line = f"{known} {known} ".encode() + who(repository) + b"\tmount-git"
                 self.put("logs/HEAD", b"\n".join([*kept, line, b""]))
-            self.write_head(known.encode() + b"\n")
+            self.put("HEAD", known.encode() + b"\n")
         return known
 
     def stood_at(self, found: Stand | None) -> str | None:
@@ -299,14 +298,6 @@ class GitFolder:
         finally:
             lock.unlink(missing_ok=True)
 
-    def write_head(self, line: bytes) -> None:
-        """Writes HEAD, which is held, and waits for the disk as Git does."""
-        with open(self.path / "HEAD.new", "wb") as file:
-            file.write(line)
-            file.flush()
-            os.fsync(file.fileno())
-        (self.path / "HEAD.new").replace(self.head)
-
     def adopt(self, repository: Repository, commit: str | None) -> str | None:
         """It is of this repository, which may have been moved, or be another one: what HEAD says stays if that has it.
         Else the folder stands on no branch, at that commit or one before it that it has; what HEAD said is given.
@@ -337,7 +328,7 @@ class GitFolder:
         with self.held("HEAD"):
             self.log.parent.mkdir(exist_ok=True)
             self.log.write_bytes(f"{NO_COMMIT} {commit} ".encode() + who(repository) + b"\tmount-git\n")
-            self.write_head((b"ref: " + os.fsencode(branch or "") if is_there else commit.encode()) + b"\n")
+            self.put("HEAD", (b"ref: " + os.fsencode(branch or "") if is_there else commit.encode()) + b"\n")
 
     def move(self, repository: Repository, branch: str, made: str, was: str, why: str) -> None:
         """Moves the branch, where it still is where it was. Where the folder is on it, its log says so with that."""

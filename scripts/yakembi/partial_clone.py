@@ -41,6 +41,8 @@ MOST_LOOKED_INTO = 2_000
 TREE_BYTES = 1_024
 # How many ids are written to Git before its answers are read, so that no pipe is full.
 PIECE = 500
+# What names an object.
+ID = re.compile("[0-9a-f]{40}")
 # Each brings a pack, and after so many Git may put them together, as it does after its own fetches.
 QUESTIONS_BETWEEN_MAINTENANCE = 50
 
@@ -117,9 +119,6 @@ class Want:
     def end(self, came: bool, is_nowhere: bool = False) -> None:
         self.came, self.is_nowhere = came, is_nowhere
         self.over.set()
-
-
-ID = re.compile("[0-9a-f]{40}")
 
 
 def known_here(repository: Repository, ids: set[str]) -> set[str]:
