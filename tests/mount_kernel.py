@@ -278,7 +278,10 @@ def check_early_ends(folder: pathlib.Path, repository: pathlib.Path, seed: int) 
         time.sleep(generator.random() * 0.5)
         running = children(mount.process.pid)
         mount.process.send_signal(generator.choice([signal.SIGTERM, signal.SIGINT]))
-        check(f"ended early, {number}: it ends, with nothing said", (mount.status() is None, mount.said()), (False, []))
+        # Between the kernel's mount and its own word that it is there, that is said.
+        status, said = mount.status(), mount.said()
+        said = [line for line in said if line != "mount-git: it was ended before it was mounted"]
+        check(f"ended early, {number}: it ends, with nothing else said", (status is None, said), (False, []))
         check(f"ended early, {number}: what is left", (mount.is_mounted(), left_of(running)), (False, []))
     with MountGit(repository, "HEAD", folder / "mounted", "--overlay", folder / "overlay") as mount:
         check("ended early: the last end, with nothing said", (mount.end("SIGTERM"), mount.said()), (0, []))
