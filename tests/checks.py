@@ -88,10 +88,10 @@ def make_repository(folder: pathlib.Path) -> pathlib.Path:
     return outer
 
 
-def whole_tree(repository: pathlib.Path) -> dict[bytes, tuple[bytes, str]]:
-    """Each path of the commit: its mode and its object's id."""
+def whole_tree(repository: pathlib.Path, tree: str = "HEAD") -> dict[bytes, tuple[bytes, str]]:
+    """Each path of the commit, or of that tree: its mode and its object's id."""
     rows = {}
-    for row in git(repository, "ls-tree", "-rtz", "HEAD", text=False).split(b"\0")[:-1]:
+    for row in git(repository, "ls-tree", "-rtz", tree, text=False).split(b"\0")[:-1]:
         head, path = row.split(b"\t", 1)
         mode, _, object_id = head.split()
         rows[path] = (mode, object_id.decode())

@@ -28,7 +28,7 @@ MARK_CALLS, WATCH_THREADS, KILL_TOO = 1, 8, 1 << 20
 MARK = 0x80
 # What `CALL_INFO` tells, and the numbers of the calls (x86-64).
 ENTRY, EXIT = 1, 2
-FSYNC, FDATASYNC = 74, 75
+FSYNC, FDATASYNC, UNLINK, UNLINKAT = 74, 75, 87, 263
 # Where `struct user` has what a call returns, and its number; no call has that one.
 RETURNED_AT, NUMBER_AT, NO_CALL = 80, 120, -1
 # `open` and `openat`, and where their flags stand.
@@ -147,8 +147,8 @@ def watch(disk: Disk, program: int) -> int:
     raise AssertionError("stops end with the program")
 
 
-def main(words: list[str]) -> int:
-    folder, record, *program = words
+def started(program: list[str]) -> int:
+    """The program, which goes on to its first call and can be watched from there."""
     child = os.fork()
     if child == 0:
         ptrace(TRACE_ME, 0)
@@ -156,6 +156,12 @@ def main(words: list[str]) -> int:
     os.waitpid(child, 0)
     ptrace(SET_OPTIONS, child, None, MARK_CALLS | WATCH_THREADS | KILL_TOO)
     ptrace(CALL, child)
+    return child
+
+
+def main(words: list[str]) -> int:
+    folder, record, *program = words
+    child = started(program)
     # The program's own, so that its end is seen at the other side.
     os.close(0)
     os.close(1)

@@ -129,7 +129,9 @@ def losses(kept: Kept, overlay: pathlib.Path, generator: random.Random) -> Itera
         return kept.bytes.get(file, b"")
 
     def some(file: int) -> bytes:
-        now, then = contents.get(file, b""), waited(file)
+        # Of a file that is gone since, the disk has what was waited for.
+        then = waited(file)
+        now = contents.get(file, then)
         if now.startswith(then):
             return now[: generator.randint(len(then), len(now))]
         return generator.choice([now, then])

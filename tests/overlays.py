@@ -7,11 +7,11 @@ from collections.abc import Callable, Iterable, Sequence
 from typing import Any, ClassVar, TypeVar
 
 from cases import Case
-from checks import check, finished, git, whole_tree
+from checks import check, finished, git, make_repository, whole_tree
 from helpers.running import Ending, Process
 from programs import EXPORTER, MOUNTD
 from random_requests import line_of
-from yakembi.overlay_files import Damaged, Shown, state_of, stored
+from yakembi.overlay_files import CommitTree, Damaged, Shown, state_of, stored
 from yakembi.session_lines import read_line
 from yakembi.tree_model import Node, Nodes, Numbers, Path, Values, WholeTree, number_told, without_number
 
@@ -25,11 +25,11 @@ Read = TypeVar("Read")
 
 
 class Commit:
-    """A commit's whole tree, and what each of its objects is."""
+    """A commit's whole tree, or that of this id, and what each of its objects is."""
 
-    def __init__(self, repository: pathlib.Path) -> None:
-        self.root = git(repository, "rev-parse", "HEAD^{tree}")
-        rows = whole_tree(repository)
+    def __init__(self, repository: pathlib.Path, tree: str = "HEAD") -> None:
+        self.root = git(repository, "rev-parse", f"{tree}^{{tree}}")
+        rows = whole_tree(repository, tree)
         self.contents = contents_of(repository, {row[1] for row in rows.values() if row[0] in LEAVES})
         self.nodes: Nodes = {(): ("dir", True)}
         self.places: dict[str, Path] = {self.root: ()}
@@ -109,6 +109,23 @@ class Place:
         return stored(self.overlay)
 
 
+class OnRepository(Case):
+    """A repository with everything, and its objects, for all tests of a class."""
+
+    repository: ClassVar[pathlib.Path]
+    commit: ClassVar[Commit]
+    objects: ClassVar[pathlib.Path]
+
+    @classmethod
+    def setUpClass(cls) -> None:
+        super().setUpClass()
+        folder = pathlib.Path(cls.enterClassContext(tempfile.TemporaryDirectory()))
+        cls.repository = make_repository(folder)
+        cls.objects = folder / "objects"
+        finished([EXPORTER, cls.repository, "HEAD", cls.objects], capture_output=True).check_returncode()
+        cls.commit = Commit(cls.repository)
+
+
 class WithCommit(Case):
     """One commit of these files, its repository and its objects for all tests of a class."""
 
@@ -168,13 +185,13 @@ def as_described(name: str, read: Callable[..., Read], *words: Any) -> Read | No
         return None
 
 
-def numbers_at(place: Place, commit: Commit) -> dict[Path, int]:
+def numbers_at(place: Place, commit: CommitTree) -> dict[Path, int]:
     """The numbers that the files of a closed overlay have, by their paths."""
     shown = as_described("numbers", Shown, commit, place.files())
     return shown.places if shown else {}
 
 
-def known_numbers(place: Place, commit: Commit) -> Numbers:
+def known_numbers(place: Place, commit: CommitTree) -> Numbers:
     """The same with the one that is given next, as a session on the overlay begins with them."""
     files = place.files()
     return Numbers(numbers_at(place, commit), state_of(files[0])[1]) if 0 in files else Numbers()

@@ -87,8 +87,8 @@ fn place_in<W: World, S: Source<W>>(
     }
 }
 
-// What has that name among the entries.
-fn place_named(entries: &[TreeEntry], name: &Name) -> Option<(Mode, Id)>
+/// What a tree of these entries has under that name: the mode and the id.
+pub fn place_named(entries: &[TreeEntry], name: &Name) -> Option<(Mode, Id)>
     ensures { result ≡ place_named name.now entries.now }
 {
     'entries: for entry in entries {
@@ -99,8 +99,9 @@ fn place_named(entries: &[TreeEntry], name: &Name) -> Option<(Mode, Id)>
     None
 }
 
-/// The entries of that tree object, in the order in which they stand in it.
-pub(crate) fn tree_entries<W: World, S: Source<W>>(
+/// The entries of that tree object, in the order in which they stand in it. The source is asked for it. The cause is
+/// the source's, or says why what came isn't that tree, or is want of memory.
+pub fn tree_entries<W: World, S: Source<W>>(
     alloc: Global,
     source: &mut S,
     id: Id,

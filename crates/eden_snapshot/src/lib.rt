@@ -23,7 +23,7 @@ mod walk;
 
 pub use change::{Change, How};
 pub use closed::{ClosedFault, expect_closed};
-pub use commit::CommitSubmodules;
+pub use commit::{CommitSubmodules, place_named, tree_entries};
 pub use comparing::{ChangeSink, changes};
 pub use fault::SnapshotFault;
 pub use left_out::LeftOut;

@@ -9,6 +9,8 @@ use Rattle.eden_checkout.specs.declared.tidying.TidyFault.{TidyFault}
 use Rattle.eden_checkout.specs.declared.tidying.TidyFault.TheVariants as tidy
 use Rattle.eden_overlay.specs.declared.rescan.RescanFault.{RescanFault}
 use Rattle.eden_overlay.specs.declared.rescan.RescanFault.TheVariants as rescan
+use Rattle.eden_dematerialise.specs.declared.fault.DematerialiseFault.{DematerialiseFault}
+use Rattle.eden_dematerialise.specs.declared.fault.DematerialiseFault.TheVariants as dematerialise
 use Rattle.eden_fuse_life.specs.declared.fault.FolderFault.{FolderFault}
 use Rattle.eden_fuse_life.specs.declared.fault.FolderFault.TheVariants as folder
 use Rattle.eden_fuse_session.specs.declared.serving.SessionFault.{SessionFault}
@@ -128,3 +130,17 @@ abbrev pub repaired_status : Result ℕ RescanFault → Result ⊤ FilesFault �
 repaired_status (Err fault) stored written = repair_status fault
 repaired_status (Ok _) (Err fault) written = 4
 repaired_status (Ok _) (Ok _) written = told_status written
+
+-- the name of why an overlay doesn't stand on another tree
+abbrev pub dematerialise_name : DematerialiseFault → List ℕ
+dematerialise_name dematerialise.NotClean = codes "NotClean"
+dematerialise_name (dematerialise.TooDeep number) = codes "TooDeep"
+dematerialise_name (dematerialise.Object cause) = codes "Object"
+dematerialise_name dematerialise.Device = codes "Device"
+dematerialise_name dematerialise.Memory = codes "Memory"
+
+-- .. and the status of that, by what it came to, and whether the disk has it
+abbrev pub dematerialised_status : Result ⊤ DematerialiseFault → Result ⊤ FilesFault → ℕ
+dematerialised_status (Err fault) stored = 4
+dematerialised_status (Ok _) (Err fault) = 4
+dematerialised_status (Ok _) (Ok _) = 0

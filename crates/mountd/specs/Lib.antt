@@ -1,3 +1,4 @@
+pub mod Dematerialised
 pub mod Endings
 pub mod Holding
 pub mod Runs

@@ -2,6 +2,7 @@
 #![tactic(auto)]
 
 mod changes;
+mod dematerialise;
 mod folder;
 mod hold;
 mod kernel;
@@ -22,6 +23,7 @@ mod tidy;
 mod version;
 
 use changes::changes;
+use dematerialise::dematerialise;
 use eden_object_writer::{ImportFault, Progress, Store};
 use folder::folder;
 use mountd_options::{Command, ImportOptions, options};
@@ -77,6 +79,7 @@ fn main(rt: HostRuntime) -> ExitCode {
         Ok(Command::Repair(options)) => repair(&rt, options),
         Ok(Command::Snapshot(options)) => snapshot(&rt, options),
         Ok(Command::Changes(options)) => changes(&rt, options),
+        Ok(Command::Dematerialise(options)) => dematerialise(&rt, options),
         Ok(Command::Version) => report::told(&rt, "version", version(&rt)),
         Err(error) => report::command_line(&rt, &error),
     }

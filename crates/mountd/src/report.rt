@@ -3,12 +3,14 @@
 //! Where standard error can't be written, the status alone tells.
 ghost use Rattle.std.specs.Prelude.{◌≡◌};
 ghost use Rattle.std.specs.Process.{exit_status};
-ghost use Rattle.mountd.specs.Endings.{close_name, folder_status, import_status, open_name, repaired_status};
-ghost use Rattle.mountd.specs.Endings.{repository_name, server_status, session_name, shared_status, status_of};
-ghost use Rattle.mountd.specs.Endings.{store_name, tidied_status, told_status};
+ghost use Rattle.mountd.specs.Endings.{close_name, dematerialise_name, dematerialised_status, folder_status};
+ghost use Rattle.mountd.specs.Endings.{import_status, open_name, repaired_status, repository_name, server_status};
+ghost use Rattle.mountd.specs.Endings.{session_name, shared_status, status_of, store_name, tidied_status};
+ghost use Rattle.mountd.specs.Endings.{told_status};
 
 use crate::server::ServerFault;
 use eden_checkout::{OpenFault, TidyFault};
+use eden_dematerialise::DematerialiseFault;
 use eden_fuse_life::FolderFault;
 use eden_fuse_session::SessionFault;
 use eden_git::GitFault;
@@ -219,6 +221,23 @@ pub fn repaired<R: Eprint>(
     }
 }
 
+/// Tells by which fault an overlay doesn't stand on another tree, or may not stay there, where that is so.
+///
+/// Status 0; 4, where a file or an object failed, or the disk.
+pub fn dematerialised<R: Eprint>(
+    rt: &R,
+    outcome: Result<(), DematerialiseFault>,
+    stored: Result<(), FilesFault>,
+) -> ExitCode
+    ensures { exit_status result ≡ dematerialised_status outcome stored }
+{
+    match (outcome, stored) {
+        (Ok(()), Ok(())) => ExitCode::SUCCESS,
+        (Ok(()), Err(fault)) => ended(rt, "dematerialise", close_name(fault)),
+        (Err(fault), _) => ended(rt, "dematerialise", dematerialise_name(fault)),
+    }
+}
+
 /// Tells by which fault `what` couldn't be written, where it couldn't be. Status 0, or 4.
 pub fn told<R: Eprint>(rt: &R, what: &str, written: io::Result<()>) -> ExitCode
     ensures { exit_status result ≡ told_status written }
@@ -271,5 +290,18 @@ fn close_name(fault: FilesFault) -> &'static str
     match fault {
         FilesFault::Device => "Device",
         FilesFault::Memory => "Memory",
+    }
+}
+
+// The name of why an overlay doesn't stand on another tree.
+fn dematerialise_name(fault: DematerialiseFault) -> &'static str
+    ensures { result.now ≡ dematerialise_name fault }
+{
+    match fault {
+        DematerialiseFault::NotClean => "NotClean",
+        DematerialiseFault::TooDeep(_) => "TooDeep",
+        DematerialiseFault::Object(_) => "Object",
+        DematerialiseFault::Device => "Device",
+        DematerialiseFault::Memory => "Memory",
     }
 }

@@ -19,7 +19,7 @@ use Rattle.clap.specs.Values.{kind_of}
 use Rattle.clap.specs.declared.error.Error.{Error}
 use Rattle.clap.specs.declared.error.kind.ErrorKind.TheVariants.{OutOfMemory}
 use Rattle.mountd_options.specs.CommandLine.{IsTaken, NamesItsSource, NamesMount, NamesServed, Refuses, RefusesNumber, RefusesRepair, RefusesServed, RefusesServer, RefusesValues}
-use Rattle.mountd_options.specs.CommandLine.{changes, command_name, fuse, import, mountd_line, named, objects, repair, serve, server_name, snapshot, stdio, subcommands, tidy, value_of}
+use Rattle.mountd_options.specs.CommandLine.{changes, command_name, dematerialise, fuse, import, mountd_line, named, objects, repair, serve, server_name, snapshot, stdio, subcommands, tidy, value_of}
 use Rattle.mountd_options.specs.Grammar.{HasRequired, Subcommand, value_in}
 use Rattle.mountd_options.specs.Numbers.{IsNoNumber, IsNoValue, number_name}
 use Rattle.mountd_options.specs.declared.numbers.NumberOption.{NumberOption}
@@ -108,12 +108,15 @@ required_met (subcommand ∷ rest) one rows apart (inr among) (inr later) = requ
 
 apart : AreApart subcommands
 apart = (
-  (refl, (refl, (refl, (refl, (refl, (refl, (refl, (refl, tt)))))))),
+  (refl, (refl, (refl, (refl, (refl, (refl, (refl, (refl, (refl, tt))))))))),
   (
-    (refl, (refl, (refl, (refl, (refl, (refl, (refl, tt))))))),
+    (refl, (refl, (refl, (refl, (refl, (refl, (refl, (refl, tt)))))))),
     (
-      (refl, (refl, (refl, (refl, (refl, (refl, tt)))))),
-      ((refl, (refl, (refl, (refl, (refl, tt))))), ((refl, (refl, (refl, (refl, tt)))), ((refl, (refl, (refl, tt))), ((refl, (refl, tt)), ((refl, tt), (tt, tt)))))),
+      (refl, (refl, (refl, (refl, (refl, (refl, (refl, tt))))))),
+      (
+        (refl, (refl, (refl, (refl, (refl, (refl, tt)))))),
+        ((refl, (refl, (refl, (refl, (refl, tt))))), ((refl, (refl, (refl, (refl, tt)))), ((refl, (refl, (refl, tt))), ((refl, (refl, tt)), ((refl, tt), (tt, tt)))))),
+      ),
     ),
   ),
 )
@@ -130,8 +133,9 @@ pub import-named : (words : List Text) (m : ArgMatches) → IsTaken words → su
     → (subcommand_name_of m ≡ Some objects.0 → false ≡ true) → (subcommand_name_of m ≡ Some tidy.0 → false ≡ true)
     → (subcommand_name_of m ≡ Some repair.0 → false ≡ true) → (subcommand_name_of m ≡ Some snapshot.0 → false ≡ true)
     → (subcommand_name_of m ≡ Some fuse.0 → false ≡ true) → (subcommand_name_of m ≡ Some changes.0 → false ≡ true)
+    → (subcommand_name_of m ≡ Some dematerialise.0 → false ≡ true)
     → subcommand_name_of m ≡ Some import.0
-import-named words m taken rows no_stdio no_serve no_objects no_tidy no_repair no_snapshot no_fuse no_changes =
+import-named words m taken rows no_stdio no_serve no_objects no_tidy no_repair no_snapshot no_fuse no_changes no_dematerialise =
     elim (Meets-taken (codes "mountd") subcommands words taken) [
       | inl is ↦ absurd (true≢false (sym (no_stdio (named_by m words stdio.0 is.0 rows is.1))))
       | inr (inl is) ↦ absurd (true≢false (sym (no_serve (named_by m words serve.0 is.0 rows is.1))))
@@ -142,7 +146,8 @@ import-named words m taken rows no_stdio no_serve no_objects no_tidy no_repair n
       | inr (inr (inr (inr (inr (inr (inl is)))))) ↦ absurd (true≢false (sym (no_snapshot (named_by m words snapshot.0 is.0 rows is.1))))
       | inr (inr (inr (inr (inr (inr (inr (inl is))))))) ↦ absurd (true≢false (sym (no_fuse (named_by m words fuse.0 is.0 rows is.1))))
       | inr (inr (inr (inr (inr (inr (inr (inr (inl is)))))))) ↦ absurd (true≢false (sym (no_changes (named_by m words changes.0 is.0 rows is.1))))
-      | inr (inr (inr (inr (inr (inr (inr (inr (inr none)))))))) ↦ absurd none
+      | inr (inr (inr (inr (inr (inr (inr (inr (inr (inl is))))))))) ↦ absurd (true≢false (sym (no_dematerialise (named_by m words dematerialise.0 is.0 rows is.1))))
+      | inr (inr (inr (inr (inr (inr (inr (inr (inr (inr none))))))))) ↦ absurd none
     ]
 
 pub named-met : (words : List Text) (f : Found) (name : Text) → subcommand_of mountd_line words ≡ Some (name, rows_of f) → named words ≡ Some name
@@ -175,6 +180,9 @@ opens_none by.Fuse name is named =
 opens_none by.Changes name is named =
     let same : objects.0 ≡ command_name by.Changes = cc in
     differ objects.0 (command_name by.Changes) refl same
+opens_none by.Dematerialise name is named =
+    let same : objects.0 ≡ command_name by.Dematerialise = cc in
+    differ objects.0 (command_name by.Dematerialise) refl same
 
 -- values that a command refuses which is over a commit's tree
 pub values_refuse : (command : MountCommand) (words : List Text) (f : Found) (why : OptionsError) → IsTaken words
@@ -191,6 +199,9 @@ values_refuse command words f why taken met refused =
     by_fault : (e : OptionsError) → RefusesValues command (value_of words) e → Refuses words e
     by_fault (error.Refused reason) why = absurd why
     by_fault error.Root why = (taken, why)
+    by_fault error.Tree why =
+        let named_so : named words ≡ Some dematerialise.0 = named-met words f (command_name command) met ∙ ap (λ c. Some (command_name c)) why.0 in
+        (taken, named_so, sources why.1, why.2)
     by_fault (error.Source refusing) why =
         let named_so : named words ≡ Some (command_name refusing) = named-met words f (command_name command) met ∙ ap (λ c. Some (command_name c)) (sym why.0) in
         (taken, named_so, why.1, why.2)
@@ -220,6 +231,7 @@ objects_refuse words f why taken met refused =
     by_fault : (e : OptionsError) → RefusesServed (value_of words) e → Refuses words e
     by_fault (error.Refused reason) why = absurd why
     by_fault error.Root why = absurd why
+    by_fault error.Tree why = absurd why
     by_fault (error.Source command) why = absurd why
     by_fault (error.Repository command) why = absurd why
     by_fault error.Served why = (taken, named-met words f objects.0 met, why)
@@ -239,6 +251,7 @@ repair_refuses words f why taken met refused =
     by_fault : (e : OptionsError) → RefusesRepair (value_of words) e → Refuses words e
     by_fault (error.Refused reason) why = absurd why
     by_fault error.Root why = (taken, why)
+    by_fault error.Tree why = absurd why
     by_fault (error.Source command) why = absurd why
     by_fault (error.Repository command) why = absurd why
     by_fault error.Served why = absurd why
@@ -252,6 +265,7 @@ pub served_refuses : (value : Text → Option Text) (why : OptionsError) → Nam
     → RefusesServed value why
 served_refuses value (error.Refused reason) one why = why
 served_refuses value error.Root one why = absurd why
+served_refuses value error.Tree one why = absurd why
 served_refuses value (error.Source refusing) one why = absurd why
 served_refuses value (error.Repository refusing) one why = absurd why
 served_refuses value error.Served one why = absurd why
@@ -265,6 +279,7 @@ pub serve_refuses : (value : Text → Option Text) (why : OptionsError) → Name
     → RefusesValues by.Serve value why
 serve_refuses value (error.Refused reason) mount why = why
 serve_refuses value error.Root mount why = absurd why
+serve_refuses value error.Tree mount why = absurd why
 serve_refuses value (error.Source refusing) mount why = absurd why
 serve_refuses value (error.Repository refusing) mount why = absurd why
 serve_refuses value error.Served mount why = absurd why

@@ -34,6 +34,7 @@ use Rattle.mountd_options.specs.declared.command.ServerCommand.{ServerCommand}
 use Rattle.mountd_options.specs.declared.command.ServerCommand.TheVariants as server
 use Rattle.mountd_options.specs.declared.command.TidyOptions.{TidyOptions}
 use Rattle.mountd_options.specs.declared.overlays.ChangesOptions.{ChangesOptions}
+use Rattle.mountd_options.specs.declared.overlays.DematerialiseOptions.{DematerialiseOptions}
 use Rattle.mountd_options.specs.declared.overlays.OverlayOptions.{OverlayOptions}
 use Rattle.mountd_options.specs.declared.overlays.SnapshotOptions.{SnapshotOptions}
 use Rattle.mountd_options.specs.declared.repair.RepairOptions.{RepairOptions}
@@ -45,6 +46,7 @@ command_name by.Serve = codes "serve"
 command_name by.Snapshot = codes "snapshot"
 command_name by.Fuse = codes "fuse"
 command_name by.Changes = codes "changes"
+command_name by.Dematerialise = codes "dematerialise"
 
 -- .. and of one that listens
 abbrev pub server_name : ServerCommand → Text
@@ -102,7 +104,7 @@ repair_options = required (codes "root") ∷ required (codes "overlay") ∷ []
 abbrev pub repair : Subcommand
 repair = (codes "repair", repair_options)
 
--- `--root ID --overlay DIR [--objects DIR] [--git DIR] [--remote SERVER]`, of whatever looks at an overlay
+-- `--root ID --overlay DIR [--objects DIR] [--git DIR] [--remote SERVER]`, of a command for an overlay
 abbrev pub overlay_options : List LineOption
 overlay_options = required (codes "root") ∷ required (codes "overlay") ∷ optional (codes "objects") ∷ optional (codes "git")
     ∷ optional (address_name Remote) ∷ []
@@ -128,8 +130,15 @@ changes_options = overlay_options ++ flag (codes "running") ∷ []
 abbrev pub changes : Subcommand
 changes = (command_name by.Changes, changes_options)
 
+abbrev pub dematerialise_options : List LineOption
+dematerialise_options = overlay_options ++ required (codes "tree") ∷ []
+
+-- `dematerialise` with the options of an overlay, and `--tree ID`
+abbrev pub dematerialise : Subcommand
+dematerialise = (command_name by.Dematerialise, dematerialise_options)
+
 abbrev pub subcommands : List Subcommand
-subcommands = stdio ∷ serve ∷ objects ∷ import ∷ tidy ∷ repair ∷ snapshot ∷ fuse ∷ changes ∷ []
+subcommands = stdio ∷ serve ∷ objects ∷ import ∷ tidy ∷ repair ∷ snapshot ∷ fuse ∷ changes ∷ dematerialise ∷ []
 
 abbrev pub mountd_line : App
 mountd_line = program (codes "mountd") subcommands
@@ -157,6 +166,7 @@ SaysPasses by.Stdio value n = n ≡ 1
 SaysPasses by.Snapshot value n = n ≡ 1
 SaysPasses by.Fuse value n = (threads : ℕ) × SaysNumber Threads 1 (value (number_name Threads)) threads × (n ≡ threads + 1)
 SaysPasses by.Changes value n = n ≡ 1
+SaysPasses by.Dematerialise value n = n ≡ 1
 SaysPasses by.Serve value n = SaysNumber Sessions 1 (value (number_name Sessions)) n
 
 -- the limits of the mount that a command opens are what these values say
@@ -225,6 +235,10 @@ NamesRoot value = (root : Text) × (value (codes "root") ≡ Some root) × IsIdT
 abbrev pub NamesNoRoot : (Text → Option Text) → Type 0
 NamesNoRoot value = (root : Text) × (value (codes "root") ≡ Some root) × ¬ IsIdText root
 
+-- the tree is no id
+abbrev pub NamesNoTree : (Text → Option Text) → Type 0
+NamesNoTree value = (tree : Text) × (value (codes "tree") ≡ Some tree) × ¬ IsIdText tree
+
 -- the root is an id, and it is named where the objects come from
 pub record NamesMount (value : Text → Option Text) : Type 0 where
   pub root : NamesRoot value
@@ -272,7 +286,7 @@ pub record IsRepair (value : Text → Option Text) (options : RepairOptions) : T
   pub root : value (codes "root") ≡ Some (encode_lower options.root.bytes)
   pub overlay : value (codes "overlay") ≡ Some (string_bytes options.overlay)
 
--- which overlay is to be looked at is what these values say
+-- which overlay the command is for is what these values say
 pub record IsOverlay (value : Text → Option Text) (options : OverlayOptions) : Type 0 where
   pub root : value (codes "root") ≡ Some (encode_lower options.root.bytes)
   pub objects : SaysObjects value options.objects
@@ -287,6 +301,11 @@ pub record IsSnapshot (value : Text → Option Text) (options : SnapshotOptions)
 pub record IsChanges (value : Text → Option Text) (options : ChangesOptions) : Type 0 where
   pub overlay : IsOverlay value options.overlay
   pub running : IsTrue options.is_running ↔ IsGiven value (codes "running")
+
+-- .. and which tree it is to stand on
+pub record IsDematerialise (value : Text → Option Text) (options : DematerialiseOptions) : Type 0 where
+  pub overlay : IsOverlay value options.overlay
+  pub tree : value (codes "tree") ≡ Some (encode_lower options.tree.bytes)
 
 -- the words ask which program this is: behind its name there is `--version` alone, which `clap` never sees
 abbrev pub AsksVersion : List Text → Type 0
@@ -303,6 +322,7 @@ AsksFor words (command.Tidy options) = (named words ≡ Some tidy.0) × IsTidy (
 AsksFor words (command.Repair options) = (named words ≡ Some repair.0) × IsRepair (value_of words) options
 AsksFor words (command.Snapshot options) = (named words ≡ Some snapshot.0) × IsSnapshot (value_of words) options
 AsksFor words (command.Changes options) = (named words ≡ Some changes.0) × IsChanges (value_of words) options
+AsksFor words (command.Dematerialise options) = (named words ≡ Some dematerialise.0) × IsDematerialise (value_of words) options
 AsksFor words command.Version = AsksVersion words
 
 -- `clap` takes the words
@@ -321,6 +341,7 @@ RefusesAddress value option = (text : Text) × (value (address_name option) ≡ 
 abbrev pub RefusesServer : ServerCommand → (Text → Option Text) → OptionsError → Type 0
 RefusesServer command value (error.Refused why) = ⊥
 RefusesServer command value error.Root = ⊥
+RefusesServer command value error.Tree = ⊥
 RefusesServer command value (error.Source refusing) = ⊥
 RefusesServer command value (error.Repository refusing) = ⊥
 RefusesServer command value error.Served = ⊥
@@ -333,6 +354,7 @@ RefusesServer command value error.Memory = ⊤
 abbrev pub RefusesServed : (Text → Option Text) → OptionsError → Type 0
 RefusesServed value (error.Refused why) = ⊥
 RefusesServed value error.Root = ⊥
+RefusesServed value error.Tree = ⊥
 RefusesServed value (error.Source refusing) = ⊥
 RefusesServed value (error.Repository refusing) = ⊥
 RefusesServed value error.Served = NamesNotOneServed value
@@ -345,6 +367,7 @@ RefusesServed value error.Memory = ⊤
 abbrev pub RefusesRepair : (Text → Option Text) → OptionsError → Type 0
 RefusesRepair value (error.Refused why) = ⊥
 RefusesRepair value error.Root = NamesNoRoot value
+RefusesRepair value error.Tree = ⊥
 RefusesRepair value (error.Source refusing) = ⊥
 RefusesRepair value (error.Repository refusing) = ⊥
 RefusesRepair value error.Served = ⊥
@@ -357,6 +380,7 @@ RefusesRepair value error.Memory = ⊤
 abbrev pub RefusesObjects : MountCommand → (Text → Option Text) → OptionsError → Type 0
 RefusesObjects command value (error.Refused why) = ⊥
 RefusesObjects command value error.Root = ⊥
+RefusesObjects command value error.Tree = ⊥
 RefusesObjects command value (error.Source refusing) = (refusing ≡ command) × NamesNotOne value
 RefusesObjects command value (error.Repository refusing) = (refusing ≡ command) × NamesBoth value
 RefusesObjects command value error.Served = ⊥
@@ -366,10 +390,11 @@ RefusesObjects command value (error.Number option) = ⊥
 RefusesObjects command value error.Memory = ⊤
 
 -- why a command over a commit's tree refuses such values: the root first, then where the objects come from, then where it is to
--- listen, if it does, or a number
+-- listen, if it does, or a number, or the tree that an overlay is to stand on
 abbrev pub RefusesValues : MountCommand → (Text → Option Text) → OptionsError → Type 0
 RefusesValues command value (error.Refused why) = ⊥
 RefusesValues command value error.Root = NamesNoRoot value
+RefusesValues command value error.Tree = (command ≡ by.Dematerialise) × NamesMount value × NamesNoTree value
 RefusesValues command value (error.Source refusing) = (refusing ≡ command) × NamesRoot value × NamesNotOne value
 RefusesValues command value (error.Repository refusing) = (refusing ≡ command) × NamesRoot value × NamesBoth value
 RefusesValues command value error.Served = ⊥
@@ -388,6 +413,7 @@ pub record NamesItsSource (words : List Text) : Type 0 where
 abbrev pub Refuses : List Text → OptionsError → Type 0
 Refuses words (error.Refused why) = IsAmong (kind_of why) (fault_of mountd_line words)
 Refuses words error.Root = IsTaken words × NamesNoRoot (value_of words)
+Refuses words error.Tree = IsTaken words × (named words ≡ Some dematerialise.0) × NamesItsSource words × NamesNoTree (value_of words)
 Refuses words (error.Source command) =
     IsTaken words × (named words ≡ Some (command_name command)) × NamesRoot (value_of words) × NamesNotOne (value_of words)
 Refuses words (error.Repository command) =

@@ -23,7 +23,10 @@ ghost use Rattle.mountd_options.specs.declared.command.ServerCommand.TheVariants
 use crate::addresses::AddressOption;
 use crate::grammar::command_line;
 use crate::numbers::NumberOption;
-use crate::overlays::{ChangesOptions, SnapshotOptions, changes_options, snapshot_options};
+use crate::overlays::{
+    ChangesOptions, DematerialiseOptions, SnapshotOptions, changes_options, dematerialise_options,
+    snapshot_options,
+};
 use crate::repair::{RepairOptions, repair_options};
 use clap::ArgMatches;
 use clap::error::ErrorKind;
@@ -98,6 +101,8 @@ pub enum MountCommand {
     Fuse,
     /// It tells what an overlay changed.
     Changes,
+    /// It lets a closed overlay stand on another tree.
+    Dematerialise,
 }
 
 impl MountCommand {
@@ -111,6 +116,7 @@ impl MountCommand {
             MountCommand::Snapshot => "snapshot",
             MountCommand::Fuse => "fuse",
             MountCommand::Changes => "changes",
+            MountCommand::Dematerialise => "dematerialise",
         }
     }
 }
@@ -236,6 +242,7 @@ pub enum Command {
     Repair(RepairOptions),
     Snapshot(SnapshotOptions),
     Changes(ChangesOptions),
+    Dematerialise(DematerialiseOptions),
     /// Which program this is.
     Version,
 }
@@ -249,6 +256,9 @@ pub enum OptionsError {
     /// The value of `--root` is no id.
     #[error("mountd: --root takes 40 lower-case hexadecimal digits")]
     Root,
+    /// The value of `--tree` is no id.
+    #[error("mountd: --tree takes 40 lower-case hexadecimal digits")]
+    Tree,
     /// This command is given no repository, and neither or both of what else objects may come from.
     #[error("mountd: {0} takes one of --objects and --remote")]
     Source(MountCommand),
@@ -323,6 +333,9 @@ pub fn options<S: AsStr>(alloc: Global, words: &[S]) -> Result<Command, OptionsE
     }
     if let Some(given) = matches.subcommand_matches("changes") {
         return Ok(Command::Changes(changes_options(alloc, given)?));
+    }
+    if let Some(given) = matches.subcommand_matches("dematerialise") {
+        return Ok(Command::Dematerialise(dematerialise_options(alloc, given)?));
     }
     // `clap` has seen that one of the subcommands is there.
     let given = matches.subcommand_matches("import").unwrap();
@@ -578,7 +591,8 @@ fn history_of(given: &ArgMatches, command: MountCommand) -> HistoryOption
             MountCommand::Stdio
             | MountCommand::Serve
             | MountCommand::Snapshot
-            | MountCommand::Changes => HistoryOption::Kept,
+            | MountCommand::Changes
+            | MountCommand::Dematerialise => HistoryOption::Kept,
         },
         Some(text) => {
             if text == "none" {
@@ -610,7 +624,10 @@ fn passes(given: &ArgMatches, command: MountCommand) -> Result<u32, NumberOption
     ensures err { IfErr result (RefusesNumber (first_value (found_of given.now))) }
 {
     match command {
-        MountCommand::Stdio | MountCommand::Snapshot | MountCommand::Changes => Ok(1),
+        MountCommand::Stdio
+        | MountCommand::Snapshot
+        | MountCommand::Changes
+        | MountCommand::Dematerialise => Ok(1),
         MountCommand::Fuse => {
             let threads = number(given, NumberOption::Threads, THREADS)? as u32;
             Ok(threads + 1)

@@ -6,7 +6,7 @@ ghost use Rattle.mountd_options.specs.CommandLine.{fuse, import, kept_options, m
 ghost use Rattle.mountd_options.specs.CommandLine.{repair, serve, stdio, tidy};
 ghost use Rattle.mountd_options.specs.Grammar.{flag, option_rule, optional, required, subcommand_shape, with_options};
 
-use crate::overlays::{changes_line, snapshot_line};
+use crate::overlays::{changes_line, dematerialise_line, snapshot_line};
 use clap::{Arg, ArgAction};
 use std::alloc::{AllocError, Global};
 
@@ -40,6 +40,8 @@ pub(crate) fn command_line<'a>(alloc: Global) -> Result<clap::Command<'a>, Alloc
     let line = line.subcommand(fuse)?;
     let changes = changes_line(alloc)?;
     let line = line.subcommand(changes)?;
+    let dematerialise = dematerialise_line(alloc)?;
+    let line = line.subcommand(dematerialise)?;
     Ok(line)
 }
 

@@ -18,5 +18,5 @@ pub use command::{
     ObjectsOptions, OptionsError, ServeOptions, Served, ServerCommand, TidyOptions, options,
 };
 pub use numbers::NumberOption;
-pub use overlays::{ChangesOptions, OverlayOptions, SnapshotOptions};
+pub use overlays::{ChangesOptions, DematerialiseOptions, OverlayOptions, SnapshotOptions};
 pub use repair::RepairOptions;

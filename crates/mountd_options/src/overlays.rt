@@ -1,9 +1,10 @@
-//! What the commands are asked for that look at an overlay.
-ghost use Rattle.std.specs.Prelude.{◌≡◌, IfErr, IfOk, false};
+//! What the commands are asked for that are for an overlay and need its commit's objects.
+ghost use Rattle.std.specs.Prelude.{◌≡◌, IfErr, IfOk, OnOk, false};
 ghost use Rattle.clap.specs.declared.builder.command.Command.TheViews.{out-Command as fields_of};
 ghost use Rattle.clap.specs.Words.{first_value, found_of, rows_of, shape_of};
-ghost use Rattle.mountd_options.specs.CommandLine.{IsChanges, IsOverlay, IsSnapshot, RefusesValues};
-ghost use Rattle.mountd_options.specs.CommandLine.{changes, changes_options, overlay_options};
+ghost use Rattle.mountd_options.specs.CommandLine.{IsChanges, IsDematerialise, IsOverlay, IsSnapshot};
+ghost use Rattle.mountd_options.specs.CommandLine.{NamesMount, RefusesValues, changes, changes_options};
+ghost use Rattle.mountd_options.specs.CommandLine.{dematerialise, dematerialise_options, overlay_options};
 ghost use Rattle.mountd_options.specs.CommandLine.{snapshot, snapshot_options};
 ghost use Rattle.mountd_options.specs.Grammar.{HasRequired, subcommand_shape};
 ghost use Rattle.mountd_options.specs.declared.command.MountCommand.TheVariants as by;
@@ -15,7 +16,7 @@ use eden_model::Id;
 use eden_object::parse_id;
 use std::alloc::{AllocError, Global};
 
-/// Which overlay is to be looked at.
+/// Which overlay the command is for.
 #[derive(Drop)]
 pub struct OverlayOptions {
     /// The tree of the commit that it stands on.
@@ -44,7 +45,16 @@ pub struct ChangesOptions {
     pub is_running: bool,
 }
 
-/// The overlay that the command is to look at.
+/// What `mountd dematerialise` is asked for.
+#[derive(Drop)]
+pub struct DematerialiseOptions {
+    /// The overlay, which is a closed one.
+    pub overlay: OverlayOptions,
+    /// The tree of the commit that it is to stand on.
+    pub tree: Id,
+}
+
+/// The overlay that the command is for.
 ///
 /// Of several errors the root's is told, and then that of where the objects come from.
 pub(crate) fn overlay_options(
@@ -54,6 +64,7 @@ pub(crate) fn overlay_options(
 ) -> Result<OverlayOptions, OptionsError>
     requires { HasRequired overlay_options (rows_of (found_of given.now)) }
     ensures ok { IfOk result (IsOverlay (first_value (found_of given.now))) }
+    ensures opened { OnOk result (NamesMount (first_value (found_of given.now))) }
     ensures err { IfErr result (RefusesValues command (first_value (found_of given.now))) }
 {
     let root = given.get_str("root").unwrap();
@@ -98,6 +109,21 @@ pub(crate) fn changes_options(
     })
 }
 
+/// Of several errors the overlay's is told, and then that of the tree.
+pub(crate) fn dematerialise_options(
+    alloc: Global,
+    given: &ArgMatches,
+) -> Result<DematerialiseOptions, OptionsError>
+    requires { HasRequired dematerialise_options (rows_of (found_of given.now)) }
+    ensures ok { IfOk result (IsDematerialise (first_value (found_of given.now))) }
+    ensures err { IfErr result (RefusesValues by.Dematerialise (first_value (found_of given.now))) }
+{
+    let tree = given.get_str("tree").unwrap();
+    let overlay = overlay_options(alloc, given, MountCommand::Dematerialise)?;
+    let tree = parse_id(tree).ok_or(OptionsError::Tree)?;
+    Ok(DematerialiseOptions { overlay, tree })
+}
+
 pub(crate) fn changes_line<'a>(alloc: Global) -> Result<clap::Command<'a>, AllocError>
     ensures shape { IfOk result (λ line. shape_of line ≡ subcommand_shape changes) }
     ensures local { IfOk result (λ line. (fields_of line).has_globals ≡ false) }
@@ -132,7 +158,24 @@ pub(crate) fn snapshot_line<'a>(alloc: Global) -> Result<clap::Command<'a>, Allo
     )
 }
 
-/// The line of a command that looks at an overlay, with the options of whatever does.
+pub(crate) fn dematerialise_line<'a>(alloc: Global) -> Result<clap::Command<'a>, AllocError>
+    ensures shape { IfOk result (λ line. shape_of line ≡ subcommand_shape dematerialise) }
+    ensures local { IfOk result (λ line. (fields_of line).has_globals ≡ false) }
+{
+    let line = overlay_line(
+        alloc,
+        "dematerialise",
+        "Lets a closed overlay stand on another tree, without what is the same there",
+    )?;
+    with_required(
+        alloc,
+        line,
+        ("tree", "ID"),
+        "The tree that it is to stand on: 40 lower-case hexadecimal digits",
+    )
+}
+
+/// The line of a command for an overlay, with the options of whatever is.
 fn overlay_line<'a>(
     alloc: Global,
     name: &'a str,

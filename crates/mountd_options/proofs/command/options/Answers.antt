@@ -1,8 +1,8 @@
 use Rattle.std.proofs.Common.{rules, ◌≡◌, refl, inl, inr, Some, map}
 use Rattle.clap.specs.Matches.{found_of, subcommand_name_of}
 use Rattle.clap.specs.Simple.{subcommand_of, subcommand_rows_of}
-use Rattle.mountd_options.specs.CommandLine.{AreServed, IsChanges, IsFolder, IsImport, IsMount, IsRepair, IsServed, IsSnapshot, IsTaken, IsTidy}
-use Rattle.mountd_options.specs.CommandLine.{Refuses, changes, fuse, import, mountd_line, objects, repair, serve, snapshot, stdio, tidy}
+use Rattle.mountd_options.specs.CommandLine.{AreServed, IsChanges, IsDematerialise, IsFolder, IsImport, IsMount, IsRepair, IsServed, IsSnapshot, IsTaken, IsTidy}
+use Rattle.mountd_options.specs.CommandLine.{Refuses, changes, dematerialise, fuse, import, mountd_line, objects, repair, serve, snapshot, stdio, tidy}
 use Rattle.mountd_options.specs.declared.command.MountCommand.TheVariants as by
 use Rattle.mountd_options.proofs.LineLemmas.{by_words, import-named, met-named, named-met, objects_refuse, repair_refuses, required-taken, values_refuse}
 use Rattle.mountd_options.proofs.command.options.Goals as goal
@@ -238,15 +238,48 @@ returns-in-Some-subcommand_matches-7-clause-ok g c =
     let asked = c.in_ok-changes_options.field-0 in
     (named-met words f changes.0 met, by_words (λ value. IsChanges value asked) words f changes.0 met c.in_ok-changes_options.ensures.ok)
 
+pub dematerialise_options-requires : goal.dematerialise_options-requires
+dematerialise_options-requires g c =
+    let words = map g.S.AsStr.text c.args.words.now in
+    let f = found_of c.in-Some-subcommand_matches-8.given.now in
+    let taken : IsTaken words = search rules in
+    let rows : subcommand_rows_of c.in_ok-matches.matches ≡ subcommand_of mountd_line words = search rules in
+    let name : subcommand_name_of c.in_ok-matches.matches ≡ Some dematerialise.0 = c.in-Some-subcommand_matches-8.ensures.found.0 refl in
+    required-taken dematerialise words f (inr (inr (inr (inr (inr (inr (inr (inr (inr (inl refl)))))))))) taken
+    (met-named words c.in_ok-matches.matches f dematerialise.0 rows name c.in-Some-subcommand_matches-8.ensures.rows)
+
+pub returns-in_err-dematerialise_options-clause-err : goal.returns-in_err-dematerialise_options-clause-err
+returns-in_err-dematerialise_options-clause-err g c =
+    let words = map g.S.AsStr.text c.args.words.now in
+    let f = found_of c.in-Some-subcommand_matches-8.given.now in
+    let why = c.in_err-dematerialise_options.field-0.0 in
+    let taken : IsTaken words = search rules in
+    let rows : subcommand_rows_of c.in_ok-matches.matches ≡ subcommand_of mountd_line words = search rules in
+    let name : subcommand_name_of c.in_ok-matches.matches ≡ Some dematerialise.0 = c.in-Some-subcommand_matches-8.ensures.found.0 refl in
+    let met = met-named words c.in_ok-matches.matches f dematerialise.0 rows name c.in-Some-subcommand_matches-8.ensures.rows in
+    let refused : Refuses words why = values_refuse by.Dematerialise words f why taken met c.in_err-dematerialise_options.ensures.err in
+    search rules
+
+pub returns-in-Some-subcommand_matches-8-clause-ok : goal.returns-in-Some-subcommand_matches-8-clause-ok
+returns-in-Some-subcommand_matches-8-clause-ok g c =
+    let words = map g.S.AsStr.text c.args.words.now in
+    let f = found_of c.in-Some-subcommand_matches-8.given.now in
+    let rows : subcommand_rows_of c.in_ok-matches.matches ≡ subcommand_of mountd_line words = search rules in
+    let name : subcommand_name_of c.in_ok-matches.matches ≡ Some dematerialise.0 = c.in-Some-subcommand_matches-8.ensures.found.0 refl in
+    let met = met-named words c.in_ok-matches.matches f dematerialise.0 rows name c.in-Some-subcommand_matches-8.ensures.rows in
+    let asked = c.in_ok-dematerialise_options.field-0 in
+    (named-met words f dematerialise.0 met, by_words (λ value. IsDematerialise value asked) words f dematerialise.0 met c.in_ok-dematerialise_options.ensures.ok)
+
 pub unwrap-given-requires : goal.unwrap-given-requires
 unwrap-given-requires g c =
     let words = map g.S.AsStr.text c.args.words.now in
     let taken : IsTaken words = search rules in
     let rows : subcommand_rows_of c.in_ok-matches.matches ≡ subcommand_of mountd_line words = search rules in
-    c.subcommand_matches-9.ensures.found.1 (import-named words c.in_ok-matches.matches taken rows c.in_default.ensures.found.1
+    c.subcommand_matches-10.ensures.found.1 (import-named words c.in_ok-matches.matches taken rows c.in_default.ensures.found.1
     c.in_default-subcommand_matches.ensures.found.1 c.in_default-subcommand_matches-2.ensures.found.1 c.in_default-subcommand_matches-3.ensures.found.1
     c.in_default-subcommand_matches-4.ensures.found.1 c.in_default-subcommand_matches-5.ensures.found.1
-    c.in_default-subcommand_matches-6.ensures.found.1 c.in_default-subcommand_matches-7.ensures.found.1)
+    c.in_default-subcommand_matches-6.ensures.found.1 c.in_default-subcommand_matches-7.ensures.found.1
+    c.in_default-subcommand_matches-8.ensures.found.1)
 
 pub import_options-requires : goal.import_options-requires
 import_options-requires g c =
@@ -257,7 +290,8 @@ import_options-requires g c =
     let name = import-named words c.in_ok-matches.matches taken rows c.in_default.ensures.found.1 c.in_default-subcommand_matches.ensures.found.1
     c.in_default-subcommand_matches-2.ensures.found.1 c.in_default-subcommand_matches-3.ensures.found.1
     c.in_default-subcommand_matches-4.ensures.found.1 c.in_default-subcommand_matches-5.ensures.found.1
-    c.in_default-subcommand_matches-6.ensures.found.1 c.in_default-subcommand_matches-7.ensures.found.1 in
+    c.in_default-subcommand_matches-6.ensures.found.1 c.in_default-subcommand_matches-7.ensures.found.1
+    c.in_default-subcommand_matches-8.ensures.found.1 in
     required-taken import words f (inr (inr (inr (inl refl)))) taken (met-named words c.in_ok-matches.matches f import.0 rows name (search rules))
 
 pub returns-clause-ok : goal.returns-clause-ok
@@ -269,7 +303,8 @@ returns-clause-ok g c =
     let name = import-named words c.in_ok-matches.matches taken rows c.in_default.ensures.found.1 c.in_default-subcommand_matches.ensures.found.1
     c.in_default-subcommand_matches-2.ensures.found.1 c.in_default-subcommand_matches-3.ensures.found.1
     c.in_default-subcommand_matches-4.ensures.found.1 c.in_default-subcommand_matches-5.ensures.found.1
-    c.in_default-subcommand_matches-6.ensures.found.1 c.in_default-subcommand_matches-7.ensures.found.1 in
+    c.in_default-subcommand_matches-6.ensures.found.1 c.in_default-subcommand_matches-7.ensures.found.1
+    c.in_default-subcommand_matches-8.ensures.found.1 in
     let met = met-named words c.in_ok-matches.matches f import.0 rows name (search rules) in
     let asked = c.in_ok-import_options.field-0 in
     (named-met words f import.0 met, by_words (λ value. IsImport value asked) words f import.0 met c.in_ok-import_options.ensures)

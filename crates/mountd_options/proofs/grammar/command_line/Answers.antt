@@ -1,6 +1,6 @@
 use Rattle.std.proofs.Common.{◌≡◌, ◌∙◌, ap, true, [], ◌∷◌, codes}
 use Rattle.clap.specs.Simple.{App, Shape, app_of, app_of_fields, new_app, on_top, shape_of, with_subcommand}
-use Rattle.mountd_options.specs.CommandLine.{fuse, import, objects, repair, serve, snapshot, stdio, tidy}
+use Rattle.mountd_options.specs.CommandLine.{changes, fuse, import, objects, repair, serve, snapshot, stdio, tidy}
 use Rattle.mountd_options.specs.Grammar.{program}
 use Rattle.mountd_options.proofs.grammar.command_line.Goals as goal
 
@@ -46,6 +46,10 @@ returns c =
     c.in_ok-line-8.ensures.shape c.in_ok-fuse.ensures.local
     ∙ (ap (λ (a : App). with_subcommand a (shape_of c.in_ok-fuse.fuse)) seven
     ∙ ap (λ (s : Shape). with_subcommand (program name (stdio ∷ serve ∷ objects ∷ import ∷ tidy ∷ repair ∷ snapshot ∷ [])) s) c.in_ok-fuse.ensures.shape) in
+    let nine : app_of c.in_ok-line-9.line ≡ program name (stdio ∷ serve ∷ objects ∷ import ∷ tidy ∷ repair ∷ snapshot ∷ fuse ∷ changes ∷ []) =
     c.in_ok-line-9.ensures.shape c.in_ok-changes.ensures.local
     ∙ (ap (λ (a : App). with_subcommand a (shape_of c.in_ok-changes.changes)) eight
-    ∙ ap (λ (s : Shape). with_subcommand (program name (stdio ∷ serve ∷ objects ∷ import ∷ tidy ∷ repair ∷ snapshot ∷ fuse ∷ [])) s) c.in_ok-changes.ensures.shape)
+    ∙ ap (λ (s : Shape). with_subcommand (program name (stdio ∷ serve ∷ objects ∷ import ∷ tidy ∷ repair ∷ snapshot ∷ fuse ∷ [])) s) c.in_ok-changes.ensures.shape) in
+    c.in_ok-line-10.ensures.shape c.in_ok-dematerialise.ensures.local
+    ∙ (ap (λ (a : App). with_subcommand a (shape_of c.in_ok-dematerialise.dematerialise)) nine
+    ∙ ap (λ (s : Shape). with_subcommand (program name (stdio ∷ serve ∷ objects ∷ import ∷ tidy ∷ repair ∷ snapshot ∷ fuse ∷ changes ∷ [])) s) c.in_ok-dematerialise.ensures.shape)

@@ -1,0 +1,10 @@
+mod Standing
+mod Alike
+mod Shown
+mod Sound
+mod Steps
+mod Left
+mod Removed
+mod Seen
+mod Found
+mod Ends

@@ -1,0 +1,3 @@
+pub mod Dematerialising
+pub mod Settling
+pub mod Unread
