@@ -10,11 +10,11 @@ import shutil
 import subprocess
 from collections.abc import Callable, Iterator
 
-from answering import AUTHOR
+from answering import AUTHOR, mount_git
 from checks import PATIENCE, check, git
 from helpers.git import environment
 from mount_folder import MountGit
-from programs import MOUNT_GIT
+from programs import MOUNT_GIT, MOUNTD
 from yakembi.git_folder import UNDER_WAY
 
 # So many changes at most come before a command.
@@ -155,6 +155,11 @@ class Twins:
             # A branch on which the folder isn't is no more what is mounted.
             check("nothing is said", [line for line in mount.said() if "the overlay stands on" not in line], [])
 
+    def dematerialise(self) -> None:
+        """Takes out of the overlay what its commit has, of which nobody sees anything."""
+        status, _, errors = mount_git("dematerialise", self.bare, "--overlay", self.overlay, "--mountd", MOUNTD)
+        check("dematerialise", (status, errors), (0, ""))
+
     def run(self, name: str, words: Words) -> bool:
         """Runs the command in both, and tells whether it succeeds."""
         status, _, errors = self.mounted.run(words)
@@ -198,12 +203,13 @@ class Twins:
 
 
 def check_git_commands(folder: pathlib.Path, repository: pathlib.Path, seed: int, count: int) -> None:
-    """So many commands with random changes before them, in mount after mount."""
+    """So many commands with random changes before them, in mount after mount; behind every second one the overlay is
+    dematerialised."""
     generator = random.Random(seed)
     commands, twins = Commands(generator), Twins(folder, repository)
     succeeded: set[str] = set()
-    for first in range(0, count, STEPS_IN_A_MOUNT):
-        with twins.mount(WAYS[first // STEPS_IN_A_MOUNT % len(WAYS)]):
+    for life, first in enumerate(range(0, count, STEPS_IN_A_MOUNT)):
+        with twins.mount(WAYS[life % len(WAYS)]):
             twins.check_same(f"seed {seed}, from step {first}")
             for number in range(first, min(count, first + STEPS_IN_A_MOUNT)):
                 name = f"seed {seed}, step {number}"
@@ -212,6 +218,8 @@ def check_git_commands(folder: pathlib.Path, repository: pathlib.Path, seed: int
                 if number % STEPS_BETWEEN_LOOKS == 0:
                     twins.check_files(name)
             twins.check_files(f"seed {seed}, before step {first + STEPS_IN_A_MOUNT}")
+        if life % 2 == 1:
+            twins.dematerialise()
     check("commands of several kinds succeeded", len(succeeded) >= min(10, count // 5), True)
 
 

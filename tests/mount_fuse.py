@@ -178,7 +178,7 @@ def check_second_mount(folder: pathlib.Path, repository: pathlib.Path) -> None:
     """An overlay that is mounted is refused to another, in one line."""
     overlay = folder / "overlay of two"
     with MountGit(repository, "HEAD", folder / "mounted", "--overlay", overlay) as mount:
-        line = f"mount-git: the overlay {overlay} is in use by another mount"
+        line = f"mount-git: the overlay {overlay} is in use by another run of mount-git"
         told = said_by(*MountGit.words(repository, "HEAD", folder / "second", "--overlay", overlay))
         check("a second mount", told, (1, [line]))
         (mount.folder / "made").write_text("made")

@@ -43,8 +43,7 @@ def committed_by(mount: Connection, words: argparse.Namespace) -> tuple[str, str
     base = base_in(about)
     branch = branch_of(repository, words.branch, about)
     was = place_of(repository, branch, base)
-    if under_way := folder.under_way():
-        raise Refusal(f"Git is in the middle of a {under_way} in the folder: end that first, by `mount-git git`")
+    folder.check_not_under_way()
     taken = mount.ask("snapshot")
     for line in taken["left_out"]:
         tell(line)

@@ -29,6 +29,7 @@ from yakembi import git_index
 from yakembi.control import Fields, name_for, tell
 from yakembi.git import DOT_GIT, SUBMODULE, Refusal, Repository, environment, said
 from yakembi.kept_tree import LINKS, forget, is_forgotten, lead
+from yakembi.overlay import sync_names
 from yakembi.partial_clone import known_here
 from yakembi.submodules import put_right
 
@@ -114,6 +115,10 @@ class GitFolder:
         is_whole = all(isinstance(found.get(name), str) and "\0" not in found[name] for name in MADE_FOR)
         return {name: found[name] for name in MADE_FOR} if is_whole else {}
 
+    def is_at(self, tree: str) -> bool:
+        """Whether Git worked in the folder, with that tree mounted."""
+        return self.made_for().get("tree") == tree
+
     def has_index(self) -> bool:
         """Whether it has an index that Git would read, as far as its first bytes tell."""
         with contextlib.suppress(OSError), open(self.index, "rb") as file:
@@ -159,6 +164,10 @@ class GitFolder:
         if found is None and self.made_for() and self.index.exists() and self.say("ls-files", "-uz"):
             return "conflict"
         return found
+
+    def check_not_under_way(self) -> None:
+        if under_way := self.under_way():
+            raise Refusal(f"Git is in the middle of a {under_way} in the folder: end that first, by `mount-git git`")
 
     # ---- what the folder stands on
 
@@ -369,6 +378,27 @@ class GitFolder:
                 self.say(*words, fsmonitor=git_index.NOTHING_CHANGED, index=written)
         written.replace(self.index)
 
+    def follow(self, old: str, new: str) -> None:
+        """Changes are told against the tree `new` from now on, which is that of the folder's commit, and no more
+        against `old`. An index that has nothing else than that commit goes, and with it what was told for it: Git
+        wouldn't cease to look at that."""
+        if not self.is_at(old) and not self.is_at(new):
+            return
+        with self.lock():
+            self.put("made", json.dumps({**self.made_for(), "tree": new}).encode())
+            # Before the overlay's note says the tree, or the folder would be another tree's after a power loss.
+            sync_names(self.path)
+        with contextlib.suppress(Refusal):
+            if self.index.exists() and self.is_plain():
+                self.index.unlink()
+
+    def is_plain(self) -> bool:
+        """Whether the index has each path as the tree has it against which changes are told, and says nothing more of
+        any, as that Git is to leave it alone."""
+        rows = self.say("ls-files", "-vz")
+        differing = self.otherwise("--ita-visible-in-index", "--ignore-submodules=none")
+        return all(row.startswith(b"H ") for row in rows) and not differing
+
     def hold_at(self, top: str) -> None:
         """The index holds for the folder now that it is mounted there. Where it has no cache to be told so, Git looks
         into all directories."""
@@ -539,13 +569,14 @@ def folder_for_git(about: Fields, top: str) -> GitFolder:
         folder.put("commondir", os.fsencode(repository.common_folder) + b"\n")
         if before and not is_of_another and not is_kept(folder, repository, before["of"]):
             fit_in(folder, repository)
+        if before and not is_of_another and before != made:
+            put_right(folder.path, before["at"], top, before["top"])
         if not folder.index.exists():
             folder.put("made", json.dumps(made).encode())
             make(folder, repository, top, about["tree"], found and found.commit or base_in(about))
         elif before != made:
             if before:
                 folder.hold_at(top)
-                put_right(folder.path, before["at"], top, before["top"])
             folder.put("made", json.dumps(made).encode())
     return folder
 

@@ -1,5 +1,6 @@
 """Refs by which a repository keeps the tree that an overlay stands on, and the commit that the next one is put on,
-though no branch has them any more: the overlay has changes alone, and `git gc` would take what they were made to.
+though no branch has them any more: the overlay has changes alone, and `git gc` would take what they were made to. An
+overlay that was dematerialised has entries on objects of each tree that it ever stood on, so these are kept too.
 
 They are named by the overlay's path and its own name, which no other overlay has that comes to lie there. A link of
 that name, in the repository's folder `mount-git`, leads to the overlay: where it leads nowhere for long, they go. A
@@ -9,14 +10,15 @@ repository that can't be written keeps nothing more.
 import contextlib
 import pathlib
 import time
+from collections.abc import Sequence
 
 from yakembi.control import name_for, tell
-from yakembi.git import Repository, said
+from yakembi.git import Refusal, Repository, said
 from yakembi.overlay import Noted
 from yakembi.partial_clone import known_here
 
 REFS = "refs/mount-git/"
-TREE, COMMIT = "tree", "commit"
+TREE, COMMIT, EACH_TREE = "tree", "commit", "trees"
 LINKS = "mount-git"
 # How the name of a mark ends that says since when a link leads nowhere, and how long such a link stays, as where the
 # overlay lies on a disk that isn't there just now.
@@ -29,6 +31,7 @@ def keep(repository: Repository, own_name: pathlib.Path, noted: Noted) -> None:
     with contextlib.suppress(OSError):
         link = lead(repository.common_folder, own_name)
         put(repository, link.name, TREE, noted.tree)
+        keep_earlier(repository, link.name)
         keep_commit(repository, own_name, noted.commit)
         for other in link.parent.iterdir():
             if other.is_symlink() and is_forgotten(other):
@@ -41,13 +44,39 @@ def keep_commit(repository: Repository, own_name: pathlib.Path, commit: str | No
         put(repository, link.name, COMMIT, commit)
 
 
+def keep_trees(repository: Repository, own_name: pathlib.Path, trees: Sequence[str]) -> None:
+    """The repository keeps these trees as long as the overlay is there, also once that stands on another one. A
+    Refusal, or an OSError, where it can't be written."""
+    link = lead(repository.common_folder, own_name)
+    for tree in trees:
+        put_or_refuse(repository, link.name, f"{EACH_TREE}/{tree}", tree)
+
+
+def keep_earlier(repository: Repository, name: str) -> None:
+    """An overlay that was moved or copied keeps by its new name each tree that it kept by another one."""
+    own = name.rpartition("-")[2]
+    rows = repository.git("for-each-ref", "--format=%(refname)", f"{REFS}*-{own}/{EACH_TREE}/*").stdout.decode()
+    kept = [row.removeprefix(REFS).split("/") for row in rows.splitlines()]
+    for tree in {tree for _, _, tree in kept} - {tree for by, _, tree in kept if by == name}:
+        put(repository, name, f"{EACH_TREE}/{tree}", tree)
+
+
 def put(repository: Repository, name: str, kind: str, object_id: str) -> None:
+    """The repository keeps the object from now on; a line says so where it doesn't."""
+    try:
+        put_or_refuse(repository, name, kind, object_id)
+    except Refusal as problem:
+        tell(f"git gc may take what the overlay stands on: {problem}")
+
+
+def put_or_refuse(repository: Repository, name: str, kind: str, object_id: str) -> None:
+    """The same, with a Refusal where it doesn't."""
     if object_id not in known_here(repository, {object_id}):
         # A partial clone keeps by itself what it is given, and another repository has nothing of it.
         return
     done = repository.git("-c", "core.logAllRefUpdates=false", "update-ref", f"{REFS}{name}/{kind}", object_id)
     if done.returncode != 0:
-        tell(f"git gc may take what the overlay stands on{said(done.stderr)}")
+        raise Refusal(f"{repository.common_folder} can't keep {object_id}{said(done.stderr)}")
 
 
 def let_go(repository: Repository, own_name: pathlib.Path) -> None:
@@ -57,8 +86,9 @@ def let_go(repository: Repository, own_name: pathlib.Path) -> None:
 
 
 def let_go_of(repository: Repository, link: pathlib.Path) -> None:
-    done = [repository.git("update-ref", "-d", f"{REFS}{link.name}/{kind}").returncode for kind in (TREE, COMMIT)]
-    if not any(done):
+    refs = repository.git("for-each-ref", "--format=%(refname)", f"{REFS}{link.name}/")
+    names = refs.stdout.decode().splitlines()
+    if not any([refs.returncode, *(repository.git("update-ref", "-d", name).returncode for name in names)]):
         forget(link)
 
 

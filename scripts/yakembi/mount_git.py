@@ -23,23 +23,17 @@ import time
 from collections.abc import Callable, Iterator, Sequence
 from typing import BinaryIO, Protocol
 
-from yakembi import (background, commit_folder, control, dot_git, end_folder, folder_changes, kept_tree, kernel,
-                     run_git)
-from yakembi.addresses import socket_path
+from yakembi import (background, commit_folder, control, dematerialise_overlay, dot_git, end_folder, folder_changes,
+                     kept_tree, kernel, run_git)
 from yakembi.control import Answers, Fields, tell
-from yakembi.git import Refusal, Repository, said
+from yakembi.git import Refusal, Repository
 from yakembi.git_folder import GitFolder, Stand
 from yakembi.git_objects import number_of_bytes
 from yakembi.kernel import Result, Unclosed, Unopened
-from yakembi.overlay import InUse, Noted, OverlayFolder
+from yakembi.overlay import Noted, OverlayFolder
 from yakembi.partial_clone import AHEAD
+from yakembi.programs import add_mountd, check_text, run_mountd, source_of
 
-# The folder of the commands, which has the package.
-SCRIPTS = pathlib.Path(__file__).resolve().parent.parent
-IS_INSTALLED = SCRIPTS.parent.name == "lib"
-# As `make install` puts it, or as `make run` builds it.
-BESIDE = SCRIPTS.parents[1] / "bin/mountd" if IS_INSTALLED else SCRIPTS.parent / "crates/mountd/out/mountd"
-MOUNTD = os.environ.get("MOUNTD", BESIDE)
 # A mountd whose folder was just unmounted still closes the overlay, and has it for so long.
 SECONDS_LOCKED = 10
 # As many requests are answered at once where objects may have to be fetched from elsewhere, and nobody says how many.
@@ -47,8 +41,6 @@ THREADS = 4
 # How long a branch that was moved from elsewhere may go unnoticed, and where nothing can be said, as while the
 # repository is away.
 SECONDS_BETWEEN_LOOKS, MOST_BETWEEN_LOOKS = 0.5, 30.0
-# How long git-objects may take to end.
-SECONDS_TO_END = 10
 UNOPENED = {
     "Locked": "another program has it open",
     "Damaged": "a file of it is damaged",
@@ -116,11 +108,7 @@ def overlay_at(path: str | None, repository: Repository) -> Iterator[OverlayFold
             stack.callback(kept_tree.let_go, repository, GitFolder(path).own_name())
         else:
             stack.callback(GitFolder(path).name_place)
-        try:
-            overlay = OverlayFolder(path)
-        except InUse:
-            raise Refusal(f"the overlay {path} is in use by another mount") from None
-        yield stack.enter_context(contextlib.closing(overlay))
+        yield stack.enter_context(contextlib.closing(OverlayFolder(path)))
 
 
 def tell_of_unnamed(repository: Repository, folder: GitFolder) -> None:
@@ -134,7 +122,8 @@ def tell_of_unnamed(repository: Repository, folder: GitFolder) -> None:
 
 
 def tree_to_show(repository: Repository, revision: str, overlay: OverlayFolder) -> Noted:
-    """The tree's id, its commit's time and its commit: as the overlay has them, if it was mounted before."""
+    """The tree's id, the time of what comes from it, and its commit: as the overlay has them, if it was mounted before.
+    """
     commit = repository.commit_of(revision)
     tree, seconds = commit or (repository.tree_of(revision), int(time.time()))
     named = Noted(tree, seconds, repository.commit_id(revision) if commit else None)
@@ -149,9 +138,9 @@ def tree_to_show(repository: Repository, revision: str, overlay: OverlayFolder) 
     if root != tree:
         # What a partial clone lacks its remote may have.
         if not repository.remotes() and repository.git("cat-file", "-e", root).returncode != 0:
-            raise Refusal(f"the overlay {overlay.path} stands on the tree {root}, which the repository lacks")
+            raise overlay.lacked(root)
     if noted is None or noted.tree != root:
-        noted = Noted(root, seconds)
+        noted = dematerialise_overlay.followed(repository, overlay, root) or Noted(root, seconds)
     if root != tree and not stands_there(repository, overlay, noted, named.commit, repository.branch_of(revision)):
         tell(f"{revision} is the tree {tree}, but the overlay stands on {root}, and that is shown; "
              "another tree wants another overlay")
@@ -166,53 +155,11 @@ def stands_there(repository: Repository, overlay: OverlayFolder, noted: Noted, c
     """Whether the folder, with its changes, stands on that commit, as after a commit of what it shows, and on no other
     branch."""
     git = GitFolder(overlay.path)
-    found = git.head_says(repository) if git.made_for().get("tree") == noted.tree else None
+    found = git.head_says(repository) if git.is_at(noted.tree) else None
     if found is None:
         return commit is not None and noted.commit == commit
     is_branch = branch is None or found.branch in (None, branch)
     return commit is not None and found.commit == commit and is_branch and git.stood_on(found) is None
-
-
-@contextlib.contextmanager
-def objects_at(path: str, repository: str, root: str, ahead: int, log: bool) -> Iterator[str]:
-    """The socket of a git-objects that ends with us, whatever ends us: its input does."""
-    options = ["--socket", path, "--with-input", "--tree", root, "--ahead", str(ahead), *(["--log"] if log else [])]
-    words = [sys.executable, str(SCRIPTS / "git-objects"), *options, "--", repository]
-    child = subprocess.Popen(words, stdin=subprocess.PIPE, stdout=subprocess.PIPE, start_new_session=True)
-    assert child.stdin is not None and child.stdout is not None
-    try:
-        if not child.stdout.readline():
-            raise Refusal("git-objects ended before it served")
-        yield path
-    finally:
-        # It ends what it has started; where that takes too long it is ended as it stands.
-        child.stdin.close()
-        with contextlib.suppress(subprocess.TimeoutExpired):
-            child.wait(SECONDS_TO_END)
-        child.kill()
-        child.stdout.close()
-        child.wait()
-
-
-@contextlib.contextmanager
-def source_of(repository: Repository, words: argparse.Namespace, root: str) -> Iterator[list[str]]:
-    """Where mountd has its objects from: the repository itself; a git-objects, where objects are to be fetched or told,
-    or the repository's path is no text, as mountd's words are."""
-    folder = repository.common_folder
-    if not repository.remotes() and not words.log and is_text(folder):
-        yield ["--git", folder]
-        return
-    with socket_path() as path, objects_at(path, words.repository, root, words.ahead, words.log) as server:
-        yield ["--remote", server]
-
-
-def is_text(path: str) -> bool:
-    """Whether the path's bytes are UTF-8."""
-    try:
-        path.encode()
-    except UnicodeEncodeError:
-        return False
-    return True
 
 
 class Served(Protocol):
@@ -278,7 +225,7 @@ class Asked:
     def look(self) -> Stand:
         """What the folder stands on, and where it isn't on a branch any more, that is kept until it is told."""
         noted, found = self.noted(), None
-        if self.is_git_at(noted.tree):
+        if self.git.is_at(noted.tree):
             self.left = self.git.adopt(self.repository, noted.commit) or self.left
             found = self.git.stands_on(self.repository)
         if found is not None and found.commit is not None:
@@ -288,10 +235,6 @@ class Asked:
             # As where the repository is another one, that has the tree.
             return Stand(None, None)
         return found or Stand(noted.commit, self.branch)
-
-    def is_git_at(self, tree: str) -> bool:
-        """Whether Git worked in the folder, with that tree mounted."""
-        return self.git.made_for().get("tree") == tree
 
     def changes(self, fields: Fields, folder: pathlib.Path) -> Fields:
         """A file with the lines of what was changed, the overlay, and what the folder stands on. It may be in use."""
@@ -311,11 +254,8 @@ class Asked:
 
     def run(self, output: int | BinaryIO, command: str, *more: str) -> subprocess.CompletedProcess[bytes]:
         """A run of `mountd` over the overlay, whose output goes there."""
-        words = [self.mountd, command, "--root", self.noted().tree, *self.source, "--overlay", self.overlay.path, *more]
-        done = subprocess.run(words, stdin=subprocess.DEVNULL, stdout=output, stderr=subprocess.PIPE)
-        if done.returncode != 0:
-            raise Refusal(f"mountd ended with status {done.returncode}{said(done.stderr)}")
-        return done
+        return run_mountd(output, self.mountd, command, "--root", self.noted().tree, *self.source, "--overlay",
+                          self.overlay.path, *more)
 
     def committed(self, fields: Fields, folder: pathlib.Path) -> Fields:
         """The next commit is put on that one, on that branch."""
@@ -323,10 +263,9 @@ class Asked:
         noted = self.noted()
         self.note(noted._replace(commit=commit))
         self.branch = branch
-        if self.is_git_at(noted.tree):
+        if self.git.is_at(noted.tree):
             self.git.go_on(self.repository, commit, branch)
         return {}
-
 
     def end(self, fields: Fields, folder: pathlib.Path) -> Fields:
         """The folder isn't mounted any more, and the overlay is closed."""
@@ -451,14 +390,13 @@ def run(words: argparse.Namespace) -> None:
     repository = Repository(words.repository)
     folder = mount_point(words.folder)
     check_apart("overlay", words.overlay, folder)
-    if words.overlay is not None and not is_text(words.overlay):
-        raise Refusal("the overlay's path isn't UTF-8, as mountd's words are")
+    check_text(words.overlay or "")
     check_apart("file", words.background, folder)
     shown = background.begin(words.background) if words.background else lambda: None
     with overlay_at(words.overlay, repository) as overlay:
         noted = tree_to_show(repository, words.revision, overlay)
         kept_tree.keep(repository, GitFolder(overlay.path).own_name(), noted)
-        with source_of(repository, words, noted.tree) as source:
+        with source_of(repository, noted.tree, words.ahead, words.log) as source:
             show(words, repository, noted, source, overlay, folder, shown)
 
 
@@ -476,8 +414,7 @@ def parser() -> argparse.ArgumentParser:
     found.add_argument("revision", metavar="REV", help="a commit, or a tree, as HEAD:folder")
     found.add_argument("folder", metavar="FOLDER", help="where it is shown; made where it isn't there")
     found.add_argument("--overlay", metavar="DIR", help="where changes are kept")
-    found.add_argument("--mountd", metavar="PROGRAM", default=MOUNTD,
-                       help="instead of $MOUNTD, or of the one that `make run` builds or `make install` installed")
+    add_mountd(found)
     found.add_argument("--ahead", metavar="BYTES", type=number_of_bytes, default=AHEAD,
                        help="of a partial clone, fetch at most so many bytes before a program asks for them: "
                        f"subfolders, and other files of a folder whose files are read; 0: none; {AHEAD} if left out")
@@ -497,6 +434,7 @@ def parser() -> argparse.ArgumentParser:
 COMMANDS: dict[str, tuple[Callable[[argparse.Namespace], None], Callable[[], argparse.ArgumentParser]]] = {
     "changes": (folder_changes.changes, folder_changes.changes_parser),
     "commit": (commit_folder.commit, commit_folder.commit_parser),
+    "dematerialise": (dematerialise_overlay.dematerialise, dematerialise_overlay.dematerialise_parser),
     "end": (end_folder.end, end_folder.end_parser),
     "git": (run_git.git, run_git.git_parser),
     "fsmonitor": (run_git.fsmonitor, run_git.fsmonitor_parser),

@@ -2,9 +2,9 @@
 
 The files whose names are numbers are mountd's, and so are `lock` and `journal`. The file `mount-git` beside them is
 ours: who holds its lock has the overlay, also while mountd is closed and opened again, and its line tells the tree, the
-commit's time, and on which commit the next one of the folder's is put. Since its lock is held no other file takes its
-place. Each line is as long as the one before it, in one sector of a disk, and is written over that at once: whatever
-is killed or fails, the old line or the new one is read.
+time of what comes from it, and on which commit the next one of the folder's is put. Since its lock is held no other
+file takes its place. Each line is as long as the one before it, in one sector of a disk, and is written over that at
+once: whatever is killed or fails, the old line or the new one is read.
 """
 
 import contextlib
@@ -14,6 +14,8 @@ import os
 import re
 import time
 from typing import NamedTuple
+
+from yakembi.git import Refusal
 
 NOTE = "mount-git"
 NOTE_LINE = re.compile(rb"([0-9a-f]{40}) ([0-9]+)(?: ([0-9a-f]{40}))?\n")
@@ -34,13 +36,14 @@ ID = 20
 TRIES, SECONDS_BETWEEN = 10, 0.01
 
 
-class InUse(Exception):
-    """Another mount has the overlay."""
+class InUse(Refusal):
+    """Another run has the overlay."""
 
 
 class Noted(NamedTuple):
-    """The tree that an overlay stands on, its commit's time in seconds, and the commit, where one is known: the mounted
-    one, or the last that was made of what the overlay shows."""
+    """The tree that an overlay stands on, the seconds of what comes from it (the commit's time, or that of the last
+    `dematerialise`), and the commit, where one is known: the mounted one, or the last that was made of what the overlay
+    shows."""
 
     tree: str
     seconds: int
@@ -64,6 +67,15 @@ def is_held(path: str | os.PathLike[str]) -> bool:
     return False
 
 
+def sync_names(folder: str | os.PathLike[str]) -> None:
+    """Waits until the disk has the names in the folder."""
+    descriptor = os.open(folder, os.O_RDONLY | os.O_DIRECTORY | os.O_CLOEXEC)
+    try:
+        os.fsync(descriptor)
+    finally:
+        os.close(descriptor)
+
+
 class OverlayFolder:
     """The folder, made where it isn't there, and held until `close`."""
 
@@ -78,7 +90,7 @@ class OverlayFolder:
                 return
             time.sleep(SECONDS_BETWEEN)
         self.close()
-        raise InUse
+        raise InUse(f"the overlay {self.path} is in use by another run of mount-git")
 
     def close(self) -> None:
         os.close(self.note)
@@ -90,6 +102,11 @@ class OverlayFolder:
 
     def is_fresh(self) -> bool:
         return not any(name == JOURNAL or NUMBERED.fullmatch(name) for name in os.listdir(self.path))
+
+    def lengths(self) -> dict[str, int]:
+        """How long each numbered file is, but the state, which each run writes anew."""
+        names = [name for name in os.listdir(self.path) if NUMBERED.fullmatch(name) and name != STATE]
+        return {name: os.stat(os.path.join(self.path, name)).st_size for name in names}
 
     def noted(self) -> Noted | None:
         """What we wrote down; None where we didn't."""
@@ -103,7 +120,7 @@ class OverlayFolder:
             return
         try:
             self.write_over(line_of(noted))
-            self.keep_name()
+            sync_names(self.path)
         except OSError as problem:
             raise OSError(problem.errno, problem.strerror, os.path.join(self.path, NOTE)) from None
 
@@ -116,13 +133,9 @@ class OverlayFolder:
             raise OSError(errno.EIO, "it isn't written whole")
         os.fsync(self.note)
 
-    def keep_name(self) -> None:
-        """Waits until the disk has the note's name."""
-        folder = os.open(self.path, os.O_RDONLY | os.O_DIRECTORY | os.O_CLOEXEC)
-        try:
-            os.fsync(folder)
-        finally:
-            os.close(folder)
+    def lacked(self, tree: str) -> Refusal:
+        """That a repository lacks the tree that it stands on."""
+        return Refusal(f"the overlay {self.path} stands on the tree {tree}, which the repository lacks")
 
     def state_root(self) -> str | None:
         """The tree that file 0 names, which a clean close leaves; None where there is none."""

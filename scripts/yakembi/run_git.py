@@ -62,8 +62,8 @@ def fsmonitor(words: argparse.Namespace) -> None:
     """Answers Git's hook `core.fsmonitor` for an index that `mount-git git` made, which names this command to Git.
     GIT_DIR is the folder `git` of the mount's overlay, as Git says it to its hooks.
 
-    It prints the paths at which Git has to look: what was changed since the commit that was mounted, what the index has
-    otherwise than that one, and what was told to have been changed.
+    It prints the paths at which Git has to look: what was changed since the tree that the overlay stands on, what the
+    index has otherwise than that one, and what was told to have been changed.
     Where it fails Git looks at every file.
     """
     if "GIT_DIR" not in os.environ:
