@@ -4,6 +4,7 @@ without FUSE, and of tests/git-status, with Git in a folder that is mounted thro
 import fcntl
 import os
 import pathlib
+import shutil
 import subprocess
 import time
 
@@ -390,7 +391,7 @@ class DematerialiseByGit(cases.Case):
 
     def test_older_trees(self) -> None:
         """What the overlay has from an older commit, of which nothing else is left, is there after `git gc`; also once
-        it lies elsewhere, and nothing is kept any more for where it lay."""
+        it lies elsewhere, or has lost its folder `git`, and nothing is kept any more for what it was."""
         with self.mounted() as mount:
             self.begun(mount)
             self.git("rm", "-q", "--cached", "plain.txt")
@@ -402,13 +403,21 @@ class DematerialiseByGit(cases.Case):
             check("what is shown here", (mount.folder / "plain.txt").read_text(), "plain\n")
         kept = GitFolder(self.overlay).own_name()
         self.overlay = self.overlay.rename(self.folder / "elsewhere")
-        with self.mounted() as mount:
-            check("the end", mount.end("SIGTERM"), 0)
-        let_go(Repository(str(self.repository)), kept)
-        forget_all(self.repository)
+        self.check_moved("moved", kept)
+        kept = GitFolder(self.overlay).own_name()
+        shutil.rmtree(self.overlay / "git")
+        self.check_moved("without its folder", kept)
         with self.mounted() as mount:
             check("what is shown", (mount.folder / "plain.txt").read_text(), "plain\n")
             check("what Git says", self.git("status", "--porcelain"), "?? plain.txt")
+
+    def check_moved(self, name: str, kept: pathlib.Path) -> None:
+        """Nothing is kept for the overlay's name of before, once it was mounted."""
+        with self.mounted() as mount:
+            self.begun(mount)
+            check(f"{name}: the end", mount.end("SIGTERM"), 0)
+        let_go(Repository(str(self.repository)), kept)
+        forget_all(self.repository)
 
     def test_times(self) -> None:
         """No file becomes older than it was: what goes has the time of that, and what stays has its own."""
@@ -429,7 +438,8 @@ class DematerialiseByGit(cases.Case):
         check("what goes, and what was never changed", after["plain.txt"] >= begun and after["run.sh"] >= begun, True)
 
     def test_refused(self) -> None:
-        """In the middle of a merge, and with a repository that lacks what the overlay stands on."""
+        """In the middle of a merge, and with a repository that lacks what the overlay stands on, or has that tree and
+        none of its commits."""
         with self.mounted() as mount:
             self.begun(mount)
             self.git("switch", "-qc", "topic")
@@ -454,6 +464,11 @@ class DematerialiseByGit(cases.Case):
         another, tree = make_repository(self.folder / "another"), noted(self.overlay)[0]
         wanted = f"mount-git: the overlay {self.overlay} stands on the tree {tree}, which the repository lacks\n"
         check("another repository", dematerialise(another, self.overlay), (1, "", wanted))
+        git(self.repository, "update-ref", "refs/kept/tree", tree)
+        git(another, "fetch", "-q", str(self.repository), "refs/kept/tree:refs/kept/tree")
+        git(self.repository, "update-ref", "-d", "refs/kept/tree")
+        wanted = f"mount-git: {another} has no commit on which the folder ever stood: it is another repository\n"
+        check("another with its tree", dematerialise(another, self.overlay), (1, "", wanted))
         with self.mounted() as mount:
             check("all is as it was then", self.state(), seen)
             check("the end", mount.end("SIGTERM"), 0)

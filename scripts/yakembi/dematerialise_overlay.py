@@ -64,10 +64,14 @@ def followed(repository: Repository, overlay: OverlayFolder, root: str) -> Noted
 
 def commit_under(repository: Repository, git: GitFolder, noted: Noted) -> str:
     """The commit on which the folder stands, as Git's HEAD there says it, where Git worked in it. A Refusal, where none
-    is known, or Git is in the middle of something."""
+    is known, Git is in the middle of something, or the repository is another one or can't be written."""
     known = repository.commit_id(noted.commit) if noted.commit is not None else None
     stand = Stand(known, None)
     if git.is_at(noted.tree):
+        stood = {commit for commit in (noted.commit, *git.stood_before()) if commit is not None}
+        if git.made_for()["of"] != repository.common_folder and not known_here(repository, stood):
+            raise Refusal(f"{repository.path} has no commit on which the folder ever stood: it is another repository")
+        kept_tree.keep_trees(repository, git.own_name(), [noted.tree])
         left = git.adopt(repository, noted.commit)
         git.check_not_under_way()
         stand = git.stands_on(repository) or stand

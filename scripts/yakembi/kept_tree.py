@@ -53,9 +53,11 @@ def keep_trees(repository: Repository, own_name: pathlib.Path, trees: Sequence[s
 
 
 def keep_earlier(repository: Repository, name: str) -> None:
-    """An overlay that was moved or copied keeps by its new name each tree that it kept by another one."""
-    own = name.rpartition("-")[2]
-    rows = repository.git("for-each-ref", "--format=%(refname)", f"{REFS}*-{own}/{EACH_TREE}/*").stdout.decode()
+    """An overlay that was moved, copied or has another own name now keeps each tree that it kept by another one."""
+    place, _, own = name.rpartition("-")
+    # One that lost its folder `git`, and so has another own name, lies still at its place.
+    patterns = (f"{REFS}*-{own}/{EACH_TREE}/*", f"{REFS}{place}-*/{EACH_TREE}/*")
+    rows = repository.git("for-each-ref", "--format=%(refname)", *patterns).stdout.decode()
     kept = [row.removeprefix(REFS).split("/") for row in rows.splitlines()]
     for tree in {tree for _, _, tree in kept} - {tree for by, _, tree in kept if by == name}:
         put(repository, name, f"{EACH_TREE}/{tree}", tree)
