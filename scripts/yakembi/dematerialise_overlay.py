@@ -71,6 +71,7 @@ def commit_under(repository: Repository, git: GitFolder, noted: Noted) -> str:
         stood = {commit for commit in (noted.commit, *git.stood_before()) if commit is not None}
         if git.made_for()["of"] != repository.common_folder and not known_here(repository, stood):
             raise Refusal(f"{repository.path} has no commit on which the folder ever stood: it is another repository")
+        # One that can't be written is refused before it takes the folder for its own.
         kept_tree.keep_trees(repository, git.own_name(), [noted.tree])
         left = git.adopt(repository, noted.commit)
         git.check_not_under_way()
