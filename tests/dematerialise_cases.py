@@ -17,7 +17,7 @@ from mount_folder import MountGit, make_project, missing
 from programs import MOUNTD, mountd
 from yakembi.git import Repository
 from yakembi.git_folder import GitFolder
-from yakembi.kept_tree import let_go
+from yakembi.kept_tree import let_go, link_to
 from yakembi.overlay import is_held
 from yakembi.overlay_files import FILE, STATE_NUMBER, stored
 
@@ -473,6 +473,14 @@ class DematerialiseByGit(cases.Case):
             check("all is as it was then", self.state(), seen)
             check("the end", mount.end("SIGTERM"), 0)
         self.repository = self.repository.rename(self.folder / "moved")
+        kept = f"refs/mount-git/{link_to('', GitFolder(self.overlay).own_name()).name}/trees"
+        git(self.repository, "update-ref", "-d", f"{kept}/{tree}")
+        git(self.repository, "update-ref", kept, "HEAD")
+        made = (self.overlay / "git/made").read_bytes()
+        status, _, errors = dematerialise(self.repository, self.overlay)
+        check("nothing is kept", (status, f"{self.repository} can't keep {tree}" in errors), (1, True))
+        check("and nothing taken", (self.overlay / "git/made").read_bytes(), made)
+        git(self.repository, "update-ref", "-d", kept)
         self.goes()
         with self.mounted():
             check("the repository was moved", self.state(), seen)
