@@ -236,6 +236,7 @@ class Lanes:
         tell(f"  {name}: passed in {seconds:.0f} s" + (f", {left} left" if left else ""))
 
     def all_pass(self) -> bool:
+        """Whether all pass. A problem of ours, as a full disk, ends those that run, and is raised."""
         with ThreadPoolExecutor(self.lanes) as pool:
             try:
                 while (self.left and not self.is_over) or self.running:
@@ -245,4 +246,8 @@ class Lanes:
                         self.end(future)
             except KeyboardInterrupt:
                 self.stop()
+            except BaseException:
+                # The pool waits for those that run.
+                self.stop()
+                raise
         return not self.is_over

@@ -1,6 +1,7 @@
 """Overlays out of which `mount-git dematerialise` takes what their commit has: cases of tests/commits, over a mount
 without FUSE, and of tests/git-status, with Git in a folder that is mounted through FUSE."""
 
+import errno
 import fcntl
 import os
 import pathlib
@@ -12,6 +13,7 @@ import cases
 from answering import AUTHOR, StandIn, mount_git, shown
 from checks import PATIENCE, check, git, make_repository
 from clones import FOLDER, Clone, make_far_repository
+from dot_git_cases import contents, make_strange
 from helpers.git import environment
 from mount_folder import MountGit, make_project, missing
 from programs import MOUNTD, mountd
@@ -153,6 +155,7 @@ class Dematerialise(cases.Case):
             killing.chmod(0o755)
             check("it is killed", dematerialise(self.repository, self.overlay, "--mountd", killing)[0], -9)
             check("its note says the old tree", noted(self.overlay)[0], old)
+            check("it knows both trees", {old, self.tree()} <= set((self.overlay / "trees").read_text().split()), True)
             seconds = noted(self.overlay)[1]
             with self.mounted() as mount:
                 check("what is shown", self.seen(mount), seen)
@@ -213,11 +216,13 @@ class Dematerialise(cases.Case):
         return {path.name: path.read_bytes() for path in self.overlay.iterdir() if path.is_file()}
 
     def test_failed(self) -> None:
-        """Where mountd isn't there, or can't have the overlay, nothing changes, and so no time does."""
+        """Where mountd isn't there, or can't have the overlay, nothing changes, and so no time does; but the overlay
+        knows of the tree that it was to stand on."""
         with self.mounted() as mount:
             mount.requests.write(b"/plain.txt", 0, b"PLAIN")
             self.committed(mount)
-        before, absent = self.files(), self.folder / "absent"
+        trees = "".join(f"{tree}\n" for tree in sorted([mount.tree, self.tree()])).encode()
+        before, absent = {**self.files(), "trees": trees}, self.folder / "absent"
         wanted = f"mount-git: {absent} can't be run (No such file or directory): `make run` builds it\n"
         check("absent", dematerialise(self.repository, self.overlay, "--mountd", absent), (1, "", wanted))
         check("absent: nothing changes", self.files(), before)
@@ -271,6 +276,7 @@ class Dematerialise(cases.Case):
         head = git(self.repository, "rev-parse", "HEAD")
         wanted = [("commit", head), ("tree", trees[-1]), *((f"trees/{tree}", tree) for tree in trees)]
         check("kept", sorted(kept), sorted(wanted))
+        check("the overlay knows them", (self.overlay / "trees").read_text().splitlines(), sorted(trees))
         let_go(Repository(str(self.repository)), GitFolder(self.overlay).own_name())
         check("and no more", git(self.repository, "for-each-ref", "refs/mount-git"), "")
         check("nor a link", os.listdir(self.repository / ".git/mount-git"), [])
@@ -411,6 +417,50 @@ class DematerialiseByGit(cases.Case):
             check("what is shown", (mount.folder / "plain.txt").read_text(), "plain\n")
             check("what Git says", self.git("status", "--porcelain"), "?? plain.txt")
 
+    def test_lacked_trees(self) -> None:
+        """A clone made anew lacks a tree that nobody pushed, and from which the overlay has a file: that is told, and
+        all else is shown. Where the overlay doesn't know its trees, or has nothing of them any more, nothing is."""
+        for words in (["add", "only"], ["rm", "-q", "--cached", "only"]):
+            with self.mounted() as mount:
+                self.begun(mount)
+                if words[0] == "add":
+                    (mount.folder / "only").write_text("only here\n")
+                self.git(*words)
+                self.git("commit", "-q", *(["--amend", "--allow-empty"] if "rm" in words else []), "-m", f"{words}")
+                check("the end", mount.end("SIGTERM"), 0)
+            lacked = noted(self.overlay)[0]
+            self.goes()
+        self.check_read("the same repository", [], 0)
+        first, self.repository = self.repository, self.folder / "anew"
+        git(self.folder, "clone", "-q", "--bare", "--no-local", str(first), str(self.repository))
+        wanted = (f"mount-git: the repository lacks what the overlay stood on before ({lacked}): what comes from there "
+                  "alone can't be read, and all else is shown")
+        self.check_read("a clone", [wanted], errno.EIO)
+        known = self.overlay / "trees"
+        text = known.read_text()
+        for name, other in [("a cut file", text.replace(lacked, lacked[:20])), ("of before", "")]:
+            known.write_text(other)
+            self.check_read(name, [], errno.EIO)
+        known.write_text(text)
+        for file in self.overlay.glob("[0-9]*"):
+            file.unlink()
+        self.check_read("an overlay that was emptied", [], errno.ENOENT)
+        check("it knows none", known.exists(), False)
+        self.repository = first
+        self.check_read("and at last", [], errno.ENOENT)
+
+    def check_read(self, name: str, wanted: list[str], problem: int) -> None:
+        """What a mount says, and what comes of reading the file that only one tree has; others are read."""
+        with self.mounted() as mount:
+            check(f"{name}: told", mount.said(), wanted)
+            check(f"{name}: another", (mount.folder / "plain.txt").read_text(), "plain\n")
+            try:
+                found = 0 if (mount.folder / "only").read_text() == "only here\n" else -1
+            except OSError as failed:
+                found = failed.errno or -1
+            check(f"{name}: that one", found, problem)
+            check(f"{name}: the end", mount.end("SIGTERM"), 0)
+
     def check_moved(self, name: str, kept: pathlib.Path) -> None:
         """Nothing is kept for the overlay's name of before, once it was mounted."""
         with self.mounted() as mount:
@@ -484,6 +534,29 @@ class DematerialiseByGit(cases.Case):
         self.goes()
         with self.mounted():
             check("the repository was moved", self.state(), seen)
+
+    def test_cut_short_and_strange(self) -> None:
+        """Where it was cut short before Git's folder followed, a repository that has the tree alone is refused."""
+        with self.mounted() as mount:
+            self.begun(mount)
+            (mount.folder / "plain.txt").write_text("mine\n")
+            self.git("commit", "-qam", "mine")
+            seen = self.state()
+            check("the end", mount.end("SIGTERM"), 0)
+        files = [self.overlay / "mount-git", self.overlay / "git/made"]
+        texts = [file.read_bytes() for file in files]
+        self.goes()
+        for file, text in zip(files, texts):
+            file.write_bytes(text)
+        before = contents(self.overlay)
+        strange = make_strange(self.folder, self.repository, self.short)
+        wanted = f"mount-git: {strange} has no commit on which the folder ever stood: it is another repository\n"
+        done = mount_git("--mountd", MOUNTD, "--overlay", self.overlay, strange, "HEAD", self.folder / "mounted")
+        check("a strange one", done, (1, "", wanted))
+        check("what Git has", contents(self.overlay), before)
+        with self.mounted() as mount:
+            check("Git says the same", self.state(), seen)
+            check("what was changed", mount_git("changes", mount.folder), (0, "", ""))
 
     def test_moved_elsewhere(self) -> None:
         """Where somebody else moved the branch, the commit on which the folder stood counts, and that is told."""

@@ -23,6 +23,25 @@ WHO = {name: value for name, value in AUTHOR.items() if not name.endswith("_DATE
 HOOK = f"{shlex.quote(sys.executable)} {shlex.quote(str(MOUNT_GIT))} fsmonitor"
 
 
+def make_strange(folder: pathlib.Path, repository: pathlib.Path, branch: str) -> pathlib.Path:
+    """A repository that has the tree of the other's HEAD, in its own commit on that branch, and none of its commits."""
+    strange, tree = folder / "strange", git(repository, "rev-parse", "HEAD^{tree}")
+    strange.mkdir()
+    git(strange, "init", "-q")
+    git(repository, "update-ref", "refs/kept/tree", tree)
+    git(strange, "fetch", "-q", str(repository), "refs/kept/tree:refs/kept/tree")
+    git(repository, "update-ref", "-d", "refs/kept/tree")
+    git(strange, "update-ref", f"refs/heads/{branch}", git(strange, "commit-tree", tree, "-m", "a stranger's"))
+    git(strange, "symbolic-ref", "HEAD", f"refs/heads/{branch}")
+    return strange
+
+
+def contents(overlay: pathlib.Path) -> dict[str, bytes]:
+    """What Git, and we, have in an overlay beside the files of numbers: all that tells on what it stands."""
+    files = [overlay / "mount-git", *(path for path in (overlay / "git").rglob("*") if path.is_file())]
+    return {str(path.relative_to(overlay)): path.read_bytes() for path in files}
+
+
 class DotGit(cases.Case):
     """Git, and what is asked of the mount."""
 
@@ -166,6 +185,79 @@ class DotGit(cases.Case):
             shutil.rmtree(self.overlay)
             shutil.rmtree(self.repository)
             before = git(first, "rev-parse", "HEAD")
+
+    def test_strange_repository(self) -> None:
+        """One that has the tree, and none of the commits on which the folder ever stood, shows it; and what Git has in
+        the overlay stays as it was, whoever asks for what there."""
+        first = self.repository
+        for words in (["branch", "--show-current"], ["switch", "-qc", "topic"], ["switch", "-q", "--detach"]):
+            strange = make_strange(self.folder, first, self.short)
+            with self.mounted() as mount:
+                self.made(mount)
+                check("a branch", self.git(mount.folder, *words)[0], 0)
+                (mount.folder / "plain.txt").write_text(f"mine {words}")
+                check("a commit", self.git(mount.folder, "commit", "-qam", "mine"), (0, ""))
+                (mount.folder / "staged").write_text("staged")
+                check("staged", self.git(mount.folder, "add", "-A"), (0, ""))
+                seen = self.state(mount)
+            before = contents(self.overlay)
+            self.repository = strange
+            self.check_strange(f"mine {words}", seen)
+            check(f"{words}: what Git has", contents(self.overlay), before)
+            self.repository = first
+            with self.mounted() as mount:
+                check(f"{words}: as before", self.state(mount), seen)
+                check("nothing is told", mount.said(), [])
+            shutil.rmtree(self.overlay)
+            shutil.rmtree(strange)
+
+    def state(self, mount: MountGit) -> list[tuple[object, ...]]:
+        """What Git says of the folder, run by itself and by `mount-git`, and what was changed there."""
+        ways = [["status", "--porcelain", "-b"], ["rev-parse", "HEAD"], ["ls-files", "-s"],
+                ["reflog", "--format=%H %gs"]]
+        return [*(self.git(mount.folder, *words) for words in ways),
+                *(mount_git("git", mount.folder, *words) for words in ways), mount_git("changes", mount.folder)]
+
+    def check_strange(self, text: str, seen: list[tuple[object, ...]]) -> None:
+        """What a mount with a strange repository shows, and refuses. The `.git` there leads to the other one."""
+        refused = f"{self.repository} has no commit on which the folder ever stood: it is another repository"
+        with self.mounted("elsewhere") as mount:
+            wanted = f"mount-git: {mount.folder}/.git isn't made right for this mount: {refused}"
+            check("told", mount.said(), [wanted])
+            check("shown", (mount.folder / "plain.txt").read_text(), text)
+            check("what was changed", mount_git("changes", mount.folder), seen[-1])
+            away = self.repository.rename(self.folder / "away")
+            time.sleep(2 * SECONDS_BETWEEN_LOOKS)
+            check("where that is away", mount_git("git", mount.folder, "status")[0], 1)
+            away.rename(self.repository)
+            check("by its .git", self.git(mount.folder, "rev-parse", "HEAD"), seen[1])
+            at = str(mount.folder)
+            for words in (["git", at, "status"], ["git", "--environment", at], ["git", "--dot-git", at],
+                          ["commit", at, "-m", "m"], ["commit", at, "-m", "m", "--branch", "other"]):
+                check(f"{words}", mount_git(*words), (1, "", f"mount-git: {refused}\n"))
+            time.sleep(2 * SECONDS_BETWEEN_LOOKS)
+            check("ended", mount_git("end", mount.folder), (0, "", ""))
+            check("and no more is told", (mount.status(), mount.said()), (0, [wanted]))
+
+    def test_strange_and_unchanged(self) -> None:
+        """So it is where nothing was changed, and a kill left no file of a number."""
+        with self.mounted() as mount:
+            check("a branch", mount_git("git", mount.folder, "switch", "-qc", "topic")[0], 0)
+            seen = mount_git("git", mount.folder, "status", "-sb")
+        for file in (*self.overlay.glob("[0-9]*"), *self.overlay.glob("journal")):
+            file.unlink()
+        before, first = contents(self.overlay), self.repository
+        self.repository = make_strange(self.folder, first, self.short)
+        with self.mounted() as mount:
+            check("refused", mount_git("git", mount.folder, "status")[0], 1)
+            check("the end", (mount.end("SIGTERM"), mount.said()), (0, []))
+        after = contents(self.overlay)
+        tree, _, commit = before.pop("mount-git").split()
+        check("what is noted", after.pop("mount-git").split()[::2], [tree, commit])
+        check("what Git has", after, before)
+        self.repository = first
+        with self.mounted() as mount:
+            check("as before", mount_git("git", mount.folder, "status", "-sb"), seen)
 
     def test_moved_and_cleaned(self) -> None:
         """What was staged a moved repository doesn't keep before the next mount; then it is a change as it was."""
@@ -364,6 +456,14 @@ class DotGit(cases.Case):
             shutil.rmtree(self.overlay)
             for mark in (self.repository / ".git/mount-git").glob("*.missing"):
                 os.utime(mark, (0, 0))
+
+    def test_line_feed(self) -> None:
+        """An overlay that no setting can name is refused in words, and nothing is made."""
+        self.overlay = self.folder / "line\nfeed"
+        with self.mounted() as mount:
+            wanted = "the path of the overlay has a line feed, so no setting of Git's can name it: move the overlay"
+            check("refused", mount_git("git", "--dot-git", mount.folder), (1, "", f"mount-git: {wanted}\n"))
+            check("nothing is made", (mount.folder / ".git").exists(), False)
 
     def test_refused(self) -> None:
         """What has a `.git` already keeps it, and no commit has that; and a repository that can't be written."""

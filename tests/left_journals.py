@@ -8,21 +8,29 @@ import random
 import shutil
 import signal
 import time
-from collections.abc import Iterator
+from collections.abc import Iterator, Sequence
 from typing import NamedTuple
 
 from checks import check, watched
 from helpers.running import pipes
 from overlays import RESCAN, Commit, Place, as_described, check_closed, check_session, replied, wanted_reply
 from random_requests import LOOKS, WORDS, RandomRequests, line_of, whole
-from yakembi.overlay_files import JOURNAL, RECORD_BYTES, Shown, records
-from yakembi.tree_model import LONGEST_DATA, Nodes, WholeTree, without_number
+from yakembi.overlay_files import JOURNAL, PART, PARTS, RECORD_BYTES, Shown, records
+from yakembi.tree_model import LONGEST_DATA, Nodes, Values, WholeTree, without_number
 
 NAMES = [b"a", b"b", b"c", b"dir", b"many", b"plain.txt", b"new\nline"]
 MOST_NODES = 1_000
 # A move between two directories stores the one and then the other, so that a cut between them shows neither.
 CHANGES = [word for word in WORDS if word not in [*LOOKS, "rename"]]
 REQUESTS, CUTS = 120, 60
+# A directory whose listing is long enough that what changes in it is noted alone; and files in it that are moved past
+# others, to the back and to the front, which changes it in two places.
+WIDE_NAMES = [b"%02d" % number + b"w" * 50 for number in range(40)]
+WIDE: list[tuple[str, Values]] = [
+    ("mkdir", ((b"wide",),)),
+    *(("create", ((b"wide", name),)) for name in WIDE_NAMES),
+    *(("rename", ((b"wide", name), (b"wide", b"z" + name))) for name in WIDE_NAMES[:6]),
+    *(("rename", ((b"wide", name), (b"wide", b"!" + name))) for name in WIDE_NAMES[-6:])]
 # A journal with more bytes becomes numbered files at the next change.
 FULL = 16 << 20
 # How large a file is that is written again and again, and how many writes then are enough to fill a journal.
@@ -46,15 +54,15 @@ def size_of(journal: pathlib.Path) -> int:
     return journal.stat().st_size if journal.exists() else 0
 
 
-def left_by(generator: random.Random, place: Place, nodes: Nodes) -> Left:
-    """Random changes, each answered before the next is sent, and then a kill."""
+def left_by(generator: random.Random, place: Place, nodes: Nodes, first: Sequence[tuple[str, Values]] = ()) -> Left:
+    """These changes and then random ones, each answered before the next is sent, and then a kill."""
     tree = WholeTree(dict(nodes))
     requests = RandomRequests(generator, tree, NAMES, MOST_NODES)
     left = Left(place, [0], [dict(tree.nodes)])
     with watched(place.start()) as session:
         to, by = pipes(session)
-        for _ in range(REQUESTS):
-            word, fields = requests.one(CHANGES)
+        for number in range(len(first) + REQUESTS):
+            word, fields = first[number] if number < len(first) else requests.one(CHANGES)
             wanted = wanted_reply(tree, word, fields)
             to.write(line_of(word, fields) + b"\n")
             reply = by.readline()
@@ -97,11 +105,17 @@ def ends_of(journal: bytes) -> Iterator[int]:
         yield at
 
 
-def check_cut_journals(folder: pathlib.Path, commit: Commit, objects: pathlib.Path, seed: int) -> None:
+def check_cut_journals(folder: pathlib.Path, commit: Commit, objects: pathlib.Path, seed: int,
+                       first: Sequence[tuple[str, Values]] = ()) -> None:
     """A journal that is cut, between records and in them, and one of which a byte is another."""
     generator = random.Random(seed)
-    left = left_by(generator, Place(commit.root, objects, folder / "left"), commit.nodes)
+    left = left_by(generator, Place(commit.root, objects, folder / "left"), commit.nodes, first)
     journal = journal_of(left.place).read_bytes()
+    sorts = [sort for sort, _, _ in records(journal)]
+    moves = sorts.count(PARTS)
+    parts = sorts.count(PART) + moves
+    check(f"changes of a body among its records, {parts}", parts >= len(first) // 2, True)
+    check(f"changes in two places, {moves}", moves >= sum(word == "rename" for word, _ in first), True)
     ends = [0, *ends_of(journal)]
     check("all of the journal are records", ends[-1], len(journal))
     check(f"enough records, of {len(ends)}", len(ends) > REQUESTS // 2, True)

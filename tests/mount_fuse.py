@@ -168,7 +168,7 @@ def check_background(folder: pathlib.Path, repository: pathlib.Path) -> None:
         kernel.unmount(str(place))
     check("background: what is told", log.read_text(), f"mounted {place}\n" * 2)
     check("background: nothing to end", said_by(MOUNT_GIT, "end", place),
-          (1, [f"mount-git: no mount-git shows {place}"]))
+          (1, [f"mount-git: no mount-git of this user shows {place}"]))
     status, lines = said_by(*words[:-2], "no-such", place)
     check("background: refused", (status, len(lines), lines[0].startswith("mount-git: ")), (1, 1, True))
     check("background: and told in the file too", log.read_text().splitlines()[2:], lines)
@@ -227,8 +227,38 @@ def check_refusals(folder: pathlib.Path, repository: pathlib.Path) -> None:
         status, lines = said_by(*MountGit.words(*words))
         check(f"refused: {name}", (status, len(lines), lines[0].startswith("mount-git: ")), (1, 1, True))
         check(f"refused: {name}: nothing is mounted", os.path.ismount(empty), False)
+    check_dangling(folder, repository, empty)
+    check_hiding(folder, repository)
     check_damaged(repository, empty, folder / "damaged")
     check("refused: the folder is as it was", list(empty.iterdir()), [])
+
+
+def check_dangling(folder: pathlib.Path, repository: pathlib.Path, empty: pathlib.Path) -> None:
+    """A link that leads nowhere, as the folder and as the overlay."""
+    link = folder / "dangling"
+    link.symlink_to(folder / "nowhere")
+    for words in (link,), (empty, "--overlay", link):
+        wanted = 1, [f"mount-git: {link}: Not a directory"]
+        check("refused: a link that leads nowhere", said_by(*MountGit.words(repository, "HEAD", *words)), wanted)
+
+
+def check_hiding(folder: pathlib.Path, repository: pathlib.Path) -> None:
+    """A folder that would hide what is read of the repository; others in its directories are none such."""
+    inside, beside, nothing, link = repository / "inside", repository / ".git/own", folder / "nothing", folder / "link"
+    inside.mkdir()
+    link.symlink_to(repository / ".git/refs/tags")
+    objects, refs = repository / ".git/objects", repository / ".git/refs"
+    not_run = f"{nothing} can't be run (No such file or directory): `make run` builds it"
+    for place, at, line in [
+        (inside, inside, f"the repository {inside} may not lie in the folder {inside}, which hides it"),
+        (repository, link, f"the folder {refs / 'tags'} may not lie in {refs}, which is Git's own"),
+        (inside, objects / "new", f"the folder {objects / 'new'} may not lie in {objects}, which is Git's own"),
+        (repository, inside, not_run), (repository, beside, not_run),
+    ]:
+        words = MountGit.words(place, "HEAD", at, "--mountd", nothing)
+        check(f"refused: {at} with {place}", said_by(*words), (1, [f"mount-git: {line}"]))
+    inside.rmdir()
+    beside.rmdir()
 
 
 def check_damaged(repository: pathlib.Path, empty: pathlib.Path, overlay: pathlib.Path) -> None:

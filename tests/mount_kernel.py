@@ -29,7 +29,7 @@ from mount_folder import Both, MountGit, checkout, children, said_by, unmount
 from mount_fuse import command_of, left_of
 from mount_names import check_names
 from programs import MOUNT_GIT, MOUNTD, TOP
-from yakembi.overlay_files import JOURNAL, RECORD_BYTES, STORED, records
+from yakembi.overlay_files import BODY, JOURNAL, PART, RECORD_BYTES, STORED, records
 
 # ---- calls of the system
 
@@ -334,7 +334,7 @@ class Stores:
                     told = told[self.HEAD.size + length:]
         noted = self.journal.read_bytes()[self.read:] if self.journal.exists() else b""
         for sort, number, body in records(noted):
-            names[b"%d" % number] += sort == STORED
+            names[b"%d" % number] += sort in (STORED, BODY, PART)
             self.read += RECORD_BYTES + len(body)
         return names
 

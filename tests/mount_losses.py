@@ -23,7 +23,8 @@ from overlays import Place
 from programs import MOUNTD, SAMPLE_OBJECTS, SAMPLE_ROOT
 from yakembi.tree_model import Nodes, Path
 
-# More than the journal notes of one file, and so many names that a directory's listing is longer than that too.
+# More than the journal notes of one content, and so many names that a directory's listing is longer than that: what
+# changes in it is noted alone.
 LONG, SHORT = 150_000, 40_000
 # A content of over 8 MiB is stored without a copy.
 HUGE = 9 << 20

@@ -20,7 +20,7 @@ from helpers.running import most_memory_of
 from mount_differences import tried
 from mount_folder import MountGit, children, said_by
 from mount_kernel import mountd_of
-from mount_uses import BYTES_OF_A_TIME
+from mount_uses import BYTES_OF_A_PLACE, BYTES_OF_A_TIME
 from programs import MOUNT_GIT, MOUNTD
 
 USERS = 8
@@ -168,7 +168,7 @@ def use(home: pathlib.Path, turns: range) -> list[str]:
 
 def check_users(folder: pathlib.Path, repository: pathlib.Path, calls: int) -> None:
     """Users at once read what they wrote. One mountd serves them, in no more memory than the first third of it took,
-    but for the time of each file that is made."""
+    but for the time of each file that is made, and its place in the journal."""
     turns = calls // (USERS * CALLS)
     with MountGit(repository, "HEAD", folder / "mounted", "--overlay", folder / "overlay") as mount:
         homes = [mount.folder / f"home {number}" for number in range(USERS)]
@@ -181,8 +181,8 @@ def check_users(folder: pathlib.Path, repository: pathlib.Path, calls: int) -> N
                 check(f"users: what each reads in {part}", list(odd), [[]] * USERS)
                 memory.append(most_memory_of(before[-1]))
         print(f"users of a folder, {calls:,} calls: {memory[0]:,} bytes, and at the end {memory[1]:,}")
-        of_times = BYTES_OF_A_TIME * USERS * (turns - turns // 3)
-        check("users: no more memory, within 5 %", 0 < memory[1] <= memory[0] * 1.05 + of_times, True)
+        of_files = (BYTES_OF_A_TIME + BYTES_OF_A_PLACE) * USERS * (turns - turns // 3)
+        check("users: no more memory, within 5 %", 0 < memory[1] <= memory[0] * 1.05 + of_files, True)
         check("users: one mountd", mountd_of(mount), before)
         check("users: each has one file", [os.listdir(home) for home in homes], [["moved"]] * USERS)
         check("users: the end, with nothing said", (mount.end("SIGTERM"), mount.said()), (0, []))

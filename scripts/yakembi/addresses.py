@@ -57,10 +57,25 @@ def connected(address: Address, timeout: float | None = None) -> socket.socket:
     return connection
 
 
+def is_text(path: str) -> bool:
+    """Whether the path's bytes are UTF-8, as mountd's words are."""
+    try:
+        path.encode()
+    except UnicodeEncodeError:
+        return False
+    return True
+
+
+def temporary_place() -> str:
+    """The folder for temporary files, or /tmp where mountd can't be told its path."""
+    place = tempfile.gettempdir()
+    return place if is_text(place) else "/tmp"
+
+
 @contextlib.contextmanager
 def socket_path() -> Iterator[str]:
     """The path of a socket to be, in a folder that nobody else may enter and that goes with the block."""
-    above = tempfile.gettempdir()
+    above = temporary_place()
     place = above if len(os.fsencode(above)) <= LONGEST_PATH - LONGEST_NAME else "/tmp"
     with tempfile.TemporaryDirectory(prefix="yakembi.", dir=place, ignore_cleanup_errors=True) as folder:
         yield os.path.join(folder, "socket")

@@ -43,6 +43,8 @@ GREATEST_NUMBER = (1 << 64) - 1
 BUFFER = 1 << 18
 # How many paths are kept with their texts, since a file is read in pages.
 KEPT_PATHS = 1_024
+# How a refusal is told.
+REFUSED = re.compile(rb"err ([0-9]{1,4}) [A-Z0-9]+")
 
 # What stands at a path: a plain file, an executable one, a link, a directory.
 FILE, EXEC, LINK, DIR = "file", "exec", "link", "dir"
@@ -283,14 +285,15 @@ class Session(Requests):
         self.close()
 
     def ask(self, head: bytes, *fields: bytes) -> Fields:
-        word, *rest = self.exchange(b" ".join(fields) + b"\n").split(b" ")
-        if word == b"err":
-            raise refusal(int(rest[0]))
+        reply = self.exchange(b" ".join(fields) + b"\n")
+        if refused := REFUSED.fullmatch(reply):
+            raise refusal(int(refused[1]))
+        word, *rest = reply.split(b" ")
         if word == b"fault":
             raise Fault([part.decode(errors="replace") for part in rest])
         if word != head:
             self.usable = False
-            raise SessionEnded(f"{word!r:.60} was told, which is no reply to {fields[0].decode()}")
+            raise SessionEnded(f"{reply!r:.60} was told, which is no reply to {fields[0].decode()}")
         return rest
 
     def exchange(self, line: bytes) -> bytes:

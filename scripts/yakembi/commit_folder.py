@@ -28,6 +28,8 @@ SIGNING = re.compile(r"GIT_(AUTHOR|COMMITTER)_(NAME|EMAIL|DATE)")
 
 
 def commit(words: argparse.Namespace) -> None:
+    if not words.message.strip():
+        raise Refusal("the commit's message is empty")
     with contextlib.closing(Connection(words.folder)) as mount:
         # Until all is done Git commits nothing in the folder, nor puts anything into its index.
         about = mount.ask("about")
@@ -40,6 +42,7 @@ def committed_by(mount: Connection, words: argparse.Namespace) -> tuple[str, str
     """The commit that is made, and its branch."""
     about = mount.ask("about")
     repository, folder = Repository(about["repository"]), GitFolder(about["overlay"])
+    folder.check_known_to(repository, about["tree"], about["commit"])
     base = base_in(about)
     branch = branch_of(repository, words.branch, about)
     was = place_of(repository, branch, base)
@@ -50,6 +53,13 @@ def committed_by(mount: Connection, words: argparse.Namespace) -> tuple[str, str
     tree = dot_git.taken_out(pathlib.Path(taken["folder"]), taken["tree"])
     if tree == repository.tree_of(base):
         raise Refusal("nothing is changed since the commit that the folder stands on")
+    if was not in (base, NO_COMMIT):
+        # As where a run was killed before the mount was told.
+        if tree != repository.tree_of(was):
+            raise elsewhere(branch, was, base)
+        tell("the branch has a commit of this already, and no other is made")
+        mount.ask("committed", commit=was, branch=branch)
+        return was, branch
     objects = objects_in(pathlib.Path(taken["folder"]))
     check_names(objects)
     put(repository, objects)
@@ -95,12 +105,18 @@ def branch_of(repository: Repository, name: str | None, about: Fields) -> str:
 
 
 def place_of(repository: Repository, branch: str, base: str) -> str:
-    """Where the branch is: at the commit that the folder stands on, or nowhere yet."""
+    """Where the branch is: at the commit that the folder stands on, at one made on that alone, or nowhere yet."""
     found = repository.git("rev-parse", "--verify", "--quiet", "--end-of-options", branch)
     was = found.stdout.decode().strip() if found.returncode == 0 else NO_COMMIT
     if was not in (base, NO_COMMIT):
-        raise Refusal(f"{branch} is at {was}, and the folder stands on {base}: nothing is moved")
+        parents = repository.git("rev-list", "--parents", "-n1", was).stdout.decode().split()[1:]
+        if parents != [base]:
+            raise elsewhere(branch, was, base)
     return was
+
+
+def elsewhere(branch: str, was: str, base: str) -> Refusal:
+    return Refusal(f"{branch} is at {was}, and the folder stands on {base}: nothing is moved")
 
 
 def put(repository: Repository, objects: list[pathlib.Path]) -> None:

@@ -19,7 +19,8 @@ import threading
 from collections.abc import Callable, Iterator
 from typing import Any
 
-from yakembi.addresses import LONGEST_NAME, LONGEST_PATH, AddressServer, ConnectionHandler, connected
+from yakembi.addresses import (LONGEST_NAME, LONGEST_PATH, AddressServer, ConnectionHandler, connected,
+                               temporary_place)
 from yakembi.git import Refusal
 
 Fields = dict[str, Any]
@@ -30,6 +31,8 @@ LONGEST_LINE = 1 << 20
 SECONDS_TO_ANSWER = 3_600
 # Who asked takes the reply so soon, or never: others wait to be answered meanwhile.
 SECONDS_TO_TAKE = 10
+# How long a mount's end may wait until what a connection left is removed.
+SECONDS_TO_REMOVE = 60
 
 
 def tell(line: str) -> None:
@@ -42,8 +45,10 @@ def tell(line: str) -> None:
 
 def said_of(problem: Refusal | OSError) -> str:
     """What is wrong, in one line."""
-    if isinstance(problem, OSError) and problem.filename:
-        return f"{os.fsdecode(problem.filename)}: {problem.strerror}"
+    if isinstance(problem, OSError):
+        if problem.filename:
+            return f"{os.fsdecode(problem.filename)}: {problem.strerror}"
+        return problem.strerror or str(problem)
     return str(problem)
 
 
@@ -90,7 +95,23 @@ class Server(AddressServer):
     def __init__(self, path: str, answers: Answers) -> None:
         self.answers = answers
         self.turn = threading.Lock()
+        # Held while what a connection left is removed.
+        self.removing = threading.Lock()
         super().__init__(path, Asked)
+
+    @contextlib.contextmanager
+    def folder(self) -> Iterator[pathlib.Path]:
+        """A folder for the block, with which it is gone at once, though what it has may take long to be removed."""
+        temporary = tempfile.TemporaryDirectory(prefix="mount-git.", dir=temporary_place(), ignore_cleanup_errors=True)
+        made = pathlib.Path(temporary.name) / "made"
+        made.mkdir(0o700)
+        try:
+            yield made
+        finally:
+            with contextlib.suppress(OSError):
+                made.rename(made.with_name("gone"))
+            with self.removing:
+                temporary.cleanup()
 
 
 class Asked(ConnectionHandler):
@@ -117,11 +138,13 @@ class Asked(ConnectionHandler):
             return found(fields, self.folder)
         except (Refusal, OSError) as problem:
             return {"refusal": said_of(problem)}
+        except Exception as problem:
+            # Nobody foresaw it, and who asked is told all the same.
+            return {"refusal": f"the mount failed: {problem!r}"}
 
     @functools.cached_property
     def folder(self) -> pathlib.Path:
-        temporary = tempfile.TemporaryDirectory(prefix="mount-git.", ignore_cleanup_errors=True)
-        return pathlib.Path(self.stack.enter_context(temporary))
+        return self.stack.enter_context(self.server.folder())
 
 
 def fields_in(line: bytes) -> Fields:
@@ -158,6 +181,8 @@ def serving(folder: str, answers: Answers, is_to_stay: bool = False) -> Iterator
         server.shutdown()
         server.server_close()
         thread.join()
+        if server.removing.acquire(timeout=SECONDS_TO_REMOVE):
+            server.removing.release()
 
 
 class Connection:
@@ -200,5 +225,5 @@ def reached(folder: str) -> tuple[socket.socket, str]:
             with contextlib.suppress(FileNotFoundError, ConnectionRefusedError):
                 return connected(os.path.join(place, name_for(at)), SECONDS_TO_ANSWER), at
         if os.path.dirname(at) == at:
-            raise Refusal(f"no mount-git shows {folder}")
+            raise Refusal(f"no mount-git of this user shows {folder}")
         at = os.path.dirname(at)

@@ -67,10 +67,8 @@ def commit_under(repository: Repository, git: GitFolder, noted: Noted) -> str:
     is known, Git is in the middle of something, or the repository is another one or can't be written."""
     known = repository.commit_id(noted.commit) if noted.commit is not None else None
     stand = Stand(known, None)
+    git.check_known_to(repository, noted.tree, noted.commit)
     if git.is_at(noted.tree):
-        stood = {commit for commit in (noted.commit, *git.stood_before()) if commit is not None}
-        if git.made_for()["of"] != repository.common_folder and not known_here(repository, stood):
-            raise Refusal(f"{repository.path} has no commit on which the folder ever stood: it is another repository")
         # One that can't be written is refused before it takes the folder for its own.
         kept_tree.keep_trees(repository, git.own_name(), [noted.tree])
         left = git.adopt(repository, noted.commit)
@@ -87,6 +85,9 @@ def without_those_of(repository: Repository, overlay: OverlayFolder, noted: Note
     """Takes that commit's files out of the overlay, which stands on its tree then, and tells how many these are.
     Wherever it is cut short the next mount, or the next run, goes on from there."""
     git, to = GitFolder(overlay.path), repository.tree_of(commit)
+    if to != noted.tree:
+        # Before anything can come from both: where it is cut short, one is known from which nothing comes.
+        overlay.keep_stood_on({noted.tree, to})
     kept_tree.keep_trees(repository, git.own_name(), [noted.tree, to])
     # Git alone has soon what goes, and waits for no disk when it stores an object or a ref.
     os.sync()

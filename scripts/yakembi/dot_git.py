@@ -30,6 +30,9 @@ LONGEST = 1 << 13
 def make(about: Fields, top: str) -> None:
     """Makes it, or makes it right, and all that it leads to. A Refusal, where the folder has another `.git`, or the
     repository can't be written, or nothing is mounted any more."""
+    if "\n" in about["overlay"]:
+        # Each setting of Git's is named in one line.
+        raise Refusal("the path of the overlay has a line feed, so no setting of Git's can name it: move the overlay")
     repository, folder = Repository(about["repository"]), folder_for_git(about, top)
     with mounted(top) as place, folder.lock():
         before = text_at(place)

@@ -21,7 +21,8 @@ def end(words: argparse.Namespace) -> None:
     except Refusal:
         if kernel.connection_of(top) is None:
             raise
-        raise Refusal(f"nobody answers for {top}: unmount it, by `fusermount3 -u` or `umount`") from None
+        raise Refusal(f"no mount-git of this user answers for {top}: unmount it as who mounted it, by "
+                      "`fusermount3 -u` or `umount`") from None
     with contextlib.closing(mount):
         if mount.top != top:
             raise Refusal(f"{top} isn't the top of a mount: that is {mount.top}")

@@ -28,7 +28,7 @@ from typing import NamedTuple
 from yakembi import git_index
 from yakembi.control import Fields, name_for, tell
 from yakembi.git import DOT_GIT, SUBMODULE, Refusal, Repository, environment, said
-from yakembi.kept_tree import LINKS, forget, is_forgotten, lead
+from yakembi.kept_tree import LINKS, forget, is_forgotten, lead, leads_somewhere
 from yakembi.overlay import sync_names
 from yakembi.partial_clone import known_here
 from yakembi.submodules import put_right
@@ -49,7 +49,7 @@ SECONDS_BETWEEN = 0.02
 # How long Git may take between the two steps of renaming a branch.
 SECONDS_OF_A_RENAME = 0.2
 # What HEAD says: a branch, or a commit.
-HEAD = re.compile(rb"(?:ref: (refs/.+)|([0-9a-f]{40}))\n?")
+HEAD = re.compile(rb"(?:ref: (refs/[^\0\n]+)|([0-9a-f]{40}))\n?")
 NO_COMMIT = "0" * 40
 # How a line of a log begins.
 LOGGED = re.compile(rb"[0-9a-f]{40} [0-9a-f]{40} ")
@@ -307,6 +307,24 @@ class GitFolder:
         finally:
             lock.unlink(missing_ok=True)
 
+    def is_strange_to(self, repository: Repository, tree: str, commit: str | None) -> bool:
+        """Whether Git worked in the folder for another repository, with that tree mounted, and this one has none of the
+        commits on which the folder ever stood, as far as HEAD, its log and that commit tell. It may have the tree all
+        the same, but nothing on which HEAD could go on. A Refusal, where the repository is away."""
+        made = self.made_for()
+        if made.get("tree") != tree or made["of"] == repository.common_folder:
+            return False
+        stood = [commit, self.stood_at(None), *self.stood_before()]
+        there = known_here(repository, {known for known in stood if known is not None})
+        # One that is away seems to have all.
+        repository.check()
+        return not there
+
+    def check_known_to(self, repository: Repository, tree: str, commit: str | None) -> None:
+        """A Refusal, where it is strange to the repository."""
+        if self.is_strange_to(repository, tree, commit):
+            raise Refusal(f"{repository.path} has no commit on which the folder ever stood: it is another repository")
+
     def adopt(self, repository: Repository, commit: str | None) -> str | None:
         """It is of this repository, which may have been moved, or be another one: what HEAD says stays if that has it.
         Else the folder stands on no branch, at that commit or one before it that it has; what HEAD said is given.
@@ -508,7 +526,8 @@ def exclude_lost(trees: pathlib.Path) -> None:
     rows = configured(trees.parent, "-z", "--get-regexp", r"^includeif\.gitdir:.*/git\.path$").stdout
     for row in os.fsdecode(rows).split("\0")[:-1]:
         folder = pathlib.Path(row.partition("\n")[2]).parent
-        if not folder.exists() and not (trees / link_name(folder)).is_symlink():
+        # It may lie where we may not look, as another user's in a repository that both share.
+        if not leads_somewhere(folder) and not (trees / link_name(folder)).is_symlink():
             exclude(trees.parent, folder)
 
 
@@ -556,6 +575,7 @@ def who(repository: Repository) -> bytes:
 def folder_for_git(about: Fields, top: str) -> GitFolder:
     """The folder of a mount, made where it isn't there."""
     repository, folder = Repository(about["repository"]), GitFolder(about["overlay"])
+    folder.check_known_to(repository, about["tree"], about["commit"])
     folder.path.mkdir(exist_ok=True)
     made = {"top": top, "tree": about["tree"], "of": repository.common_folder, "at": str(folder.path)}
     with folder.lock():

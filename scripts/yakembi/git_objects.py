@@ -15,6 +15,7 @@ user's alone.
 
 import argparse
 import contextlib
+import io
 import os
 import re
 import signal
@@ -186,10 +187,10 @@ def tree_id(text: str) -> str:
 
 
 def number_of_bytes(text: str) -> int:
-    number = int(text)
-    if number < 0:
-        raise ValueError
-    return number
+    with contextlib.suppress(ValueError):
+        if int(text) >= 0:
+            return int(text)
+    raise argparse.ArgumentTypeError(f"{text!r} is no number of bytes")
 
 
 def parser() -> argparse.ArgumentParser:
@@ -212,6 +213,9 @@ def parser() -> argparse.ArgumentParser:
 
 def main() -> int:
     words = parser().parse_args()
+    # A socket's path may be any bytes.
+    if isinstance(sys.stdout, io.TextIOWrapper):
+        sys.stdout.reconfigure(errors="surrogateescape")
     try:
         server = Server(words)
     except (Refusal, OSError) as problem:

@@ -14,7 +14,7 @@ from collections.abc import Sequence
 
 from yakembi.control import name_for, tell
 from yakembi.git import Refusal, Repository, said
-from yakembi.overlay import Noted
+from yakembi.overlay import Noted, OverlayFolder
 from yakembi.partial_clone import known_here
 
 REFS = "refs/mount-git/"
@@ -79,6 +79,15 @@ def put_or_refuse(repository: Repository, name: str, kind: str, object_id: str) 
     done = repository.git("-c", "core.logAllRefUpdates=false", "update-ref", f"{REFS}{name}/{kind}", object_id)
     if done.returncode != 0:
         raise Refusal(f"{repository.common_folder} can't keep {object_id}{said(done.stderr)}")
+
+
+def tell_of_lacked(repository: Repository, overlay: OverlayFolder, tree: str) -> None:
+    """Tells which trees the repository lacks on which the overlay stood before that one, as a clone made anew those
+    that nobody pushed. What a partial clone lacks its remote may have."""
+    before = overlay.stood_on() - {tree}
+    if before and not repository.remotes() and (lacked := sorted(before - repository.known(before))):
+        tell(f"the repository lacks what the overlay stood on before ({', '.join(lacked)}): "
+             "what comes from there alone can't be read, and all else is shown")
 
 
 def let_go(repository: Repository, own_name: pathlib.Path) -> None:

@@ -9,6 +9,7 @@ mountd that it began with knows its nodes.
 import array
 import contextlib
 import ctypes
+import errno
 import os
 import pathlib
 import re
@@ -21,6 +22,7 @@ import time
 from collections.abc import Callable, Iterator, Mapping, Sequence
 from typing import TypeVar
 
+from yakembi.control import said_of
 from yakembi.git import Refusal, said
 from yakembi.standing import standing_still
 
@@ -77,11 +79,15 @@ def mount_by_helper(folder: str) -> int:
                               pass_fds=[theirs.fileno()], capture_output=True)
         if done.returncode != 0:
             raise OSError(1, f"fusermount3 couldn't mount it{said(done.stderr)}", folder)
+        # With its end closed here too, what it didn't send isn't waited for.
+        theirs.close()
         descriptors = array.array("i")
         _, rows, _, _ = ours.recvmsg(1, socket.CMSG_LEN(descriptors.itemsize))
         for level, kind, data in rows:
             if level == socket.SOL_SOCKET and kind == socket.SCM_RIGHTS:
                 descriptors.frombytes(data[:descriptors.itemsize])
+        if not descriptors:
+            raise OSError(errno.EPROTO, "fusermount3 handed no mount over", folder)
         return descriptors[0]
 
 
@@ -117,16 +123,29 @@ def abort(folder: str, connection: int | None = None) -> None:
             LIBC.umount2(os.fsencode(folder), MNT_FORCE)
 
 
+def mounts() -> Iterator[tuple[bytes, int, bytes]]:
+    """Each mount, in the order in which they came: its path, the number of its device, and what it is."""
+    for row in MOUNTS.read_bytes().splitlines():
+        head, _, tail = row.partition(b" - ")
+        _, _, device, _, place, *_ = head.split(b" ")
+        path = re.sub(rb"\\([0-7]{3})", lambda code: bytes([int(code[1], 8)]), place)
+        yield path, int(device.partition(b":")[2]), tail
+
+
 def connection_of(folder: str) -> int | None:
     """The number by which the kernel names the connection of the last mount of ours at the folder, whose path has no
     links; None where none is. Nobody is asked but the kernel, who may have to be waited for."""
     found = None
-    for row in MOUNTS.read_bytes().splitlines():
-        head, _, tail = row.partition(b" - ")
-        _, _, device, _, place, *_ = head.split(b" ")
-        if re.sub(rb"\\([0-7]{3})", lambda code: bytes([int(code[1], 8)]), place) == os.fsencode(folder):
-            found = int(device.partition(b":")[2]) if tail.startswith(KIND + b" ") else None
+    for path, device, what in mounts():
+        if path == os.fsencode(folder):
+            found = device if what.startswith(KIND + b" ") else None
     return found
+
+
+def mounted_inside(folder: str) -> str | None:
+    """The last mount below the folder, whose path has no links; None where none is."""
+    below = [path for path, _, _ in mounts() if path.startswith(os.fsencode(folder) + b"/")]
+    return os.fsdecode(below[-1]) if below else None
 
 
 def can_mount() -> bool:
@@ -149,8 +168,9 @@ class Shown:
         self.folder = folder
         descriptor = mount(folder) if descriptor is None else descriptor
         try:
+            # As we ignore SIGXFSZ, mountd does: a file over its user's limit is an error like a full disk.
             self.child = subprocess.Popen(words, stdin=descriptor, stdout=descriptor, stderr=subprocess.PIPE,
-                                          env=with_huge_pages(os.environ), process_group=0)
+                                          env=with_huge_pages(os.environ), process_group=0, restore_signals=False)
         except OSError:
             unmount(folder)
             raise
@@ -286,11 +306,14 @@ class Showing:
                 return work()
 
     def leave(self, what_to_do: str) -> None:
-        """Unmounts the folder. A Refusal, where it is in use, which says what to do then."""
+        """Unmounts the folder. A Refusal, where it is in use, which says what to do then, or what is mounted in it."""
         with contextlib.suppress(OSError):
             # Answered after the closes before it, of which the last one of a removed file takes that away.
             os.statvfs(self.folder)
         if self.is_ended or not unmount_unused(self.folder):
+            inside = mounted_inside(self.place)
+            if inside is not None:
+                what_to_do = f"unmount {inside}, which is mounted in it"
             raise Refusal(f"{self.folder} is in use: {what_to_do}")
 
     @contextlib.contextmanager
@@ -299,9 +322,10 @@ class Showing:
         try:
             yield
         except (Unopened, OSError) as problem:
+            why = said_of(problem) if isinstance(problem, OSError) else str(problem)
             if not self.is_ended:
-                self.lost = str(problem)
-            raise Unopened(str(problem)) from None
+                self.lost = why
+            raise Unopened(why) from None
 
     def mounted_again(self) -> int:
         """Mounts the folder, which was just unmounted, at once; the descriptor that the next mountd is given."""

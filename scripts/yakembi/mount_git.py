@@ -25,17 +25,20 @@ from typing import BinaryIO, Protocol
 
 from yakembi import (background, commit_folder, control, dematerialise_overlay, dot_git, end_folder, folder_changes,
                      kept_tree, kernel, run_git)
+from yakembi.addresses import temporary_place
 from yakembi.control import Answers, Fields, tell
 from yakembi.git import Refusal, Repository
 from yakembi.git_folder import GitFolder, Stand
 from yakembi.git_objects import number_of_bytes
 from yakembi.kernel import Result, Unclosed, Unopened
-from yakembi.overlay import Noted, OverlayFolder
+from yakembi.overlay import Noted, OverlayFolder, make_folder
 from yakembi.partial_clone import AHEAD
 from yakembi.programs import add_mountd, check_text, run_mountd, source_of
 
 # A mountd whose folder was just unmounted still closes the overlay, and has it for so long.
 SECONDS_LOCKED = 10
+# Who waits longer for mountd to open an overlay is told.
+SECONDS_TO_OPEN = 3.0
 # As many requests are answered at once where objects may have to be fetched from elsewhere, and nobody says how many.
 THREADS = 4
 # How long a branch that was moved from elsewhere may go unnoticed, and where nothing can be said, as while the
@@ -49,6 +52,11 @@ UNOPENED = {
     "Device": "it can't be read or written",
     "Memory": "there is no memory to open it",
 }
+# The folders that Git has in its own one, or may come to have (gitrepository-layout(5)).
+GIT_FOLDERS = ("branches", "common", "hooks", "info", "logs", "modules", "objects", "refs", "reftable", "remotes",
+               "rr-cache", "worktrees")
+# A disk that has no more bytes is full: a directory that is stored may be longer.
+FULL = 1 << 16
 # What `mountd repair` is for.
 REPAIRED = ("Damaged", "Dangling", "Twice")
 
@@ -86,12 +94,27 @@ def mount_point(path: str) -> str:
     return os.path.abspath(path)
 
 
+def lies_in(place: str, folder: str) -> bool:
+    """Whether it is the folder, or below it; neither has links in its path."""
+    return os.path.commonpath([place, folder]) == folder
+
+
 def check_apart(what: str, place: str | None, folder: str) -> None:
     """A mount hides what its folder held, so that nothing of its own can lie there."""
     if place is not None:
         place, folder = os.path.realpath(place), os.path.realpath(folder)
-        if os.path.commonpath([place, folder]) == folder:
+        if lies_in(place, folder):
             raise Refusal(f"the {what} {place} may not lie in the folder {folder}, which hides it")
+
+
+def check_hides_nothing(folder: str, repository: Repository) -> None:
+    """The folder may lie in a working directory, and in a bare repository beside what Git has there. In that it would
+    hide what Git and mountd read."""
+    folder = os.path.realpath(folder)
+    for name in GIT_FOLDERS:
+        own = os.path.realpath(os.path.join(repository.common_folder, name))
+        if lies_in(folder, own):
+            raise Refusal(f"the folder {folder} may not lie in {own}, which is Git's own")
 
 
 # ---- what runs below
@@ -101,14 +124,18 @@ def check_apart(what: str, place: str | None, folder: str) -> None:
 def overlay_at(path: str | None, repository: Repository) -> Iterator[OverlayFolder]:
     """The overlay's folder; a temporary one where none is named, which the repository forgets in the end."""
     with contextlib.ExitStack() as stack:
+        is_named = path is not None
         if path is None:
-            path = stack.enter_context(tempfile.TemporaryDirectory(prefix="mount-git."))
+            path = stack.enter_context(tempfile.TemporaryDirectory(prefix="mount-git.", dir=temporary_place()))
+        # Before anything else is written: one that is refused stays as it is.
+        found = OverlayFolder(path)
+        if is_named:
+            stack.callback(GitFolder(path).name_place)
+        else:
             stack.callback(GitFolder(path).unlink)
             stack.callback(tell_of_unnamed, repository, GitFolder(path))
             stack.callback(kept_tree.let_go, repository, GitFolder(path).own_name())
-        else:
-            stack.callback(GitFolder(path).name_place)
-        yield stack.enter_context(contextlib.closing(OverlayFolder(path)))
+        yield stack.enter_context(contextlib.closing(found))
 
 
 def tell_of_unnamed(repository: Repository, folder: GitFolder) -> None:
@@ -127,11 +154,13 @@ def tree_to_show(repository: Repository, revision: str, overlay: OverlayFolder) 
     commit = repository.commit_of(revision)
     tree, seconds = commit or (repository.tree_of(revision), int(time.time()))
     named = Noted(tree, seconds, repository.commit_id(revision) if commit else None)
-    noted = overlay.noted()
+    git, noted = GitFolder(overlay.path), overlay.noted()
     if overlay.is_fresh():
         # A folder that was never changed stands on what is mounted now.
-        overlay.write_note(named)
-        return named
+        noted = with_commit(repository, git, named._replace(commit=noted and noted.commit), named.commit)
+        overlay.forget_stood_on()
+        overlay.write_note(noted)
+        return noted
     root = overlay.state_root() or (noted.tree if noted else None)
     if root is None:
         raise Refusal(f"the overlay {overlay.path} was left by a killed run, and doesn't say on which tree it stands")
@@ -139,22 +168,29 @@ def tree_to_show(repository: Repository, revision: str, overlay: OverlayFolder) 
         # What a partial clone lacks its remote may have.
         if not repository.remotes() and repository.git("cat-file", "-e", root).returncode != 0:
             raise overlay.lacked(root)
+    if noted is not None and noted.tree != root:
+        # Nobody could say any more that what Git has there is of that tree.
+        git.check_known_to(repository, noted.tree, noted.commit)
     if noted is None or noted.tree != root:
         noted = dematerialise_overlay.followed(repository, overlay, root) or Noted(root, seconds)
-    if root != tree and not stands_there(repository, overlay, noted, named.commit, repository.branch_of(revision)):
+    if root != tree and not stands_there(repository, git, noted, named.commit, repository.branch_of(revision)):
         tell(f"{revision} is the tree {tree}, but the overlay stands on {root}, and that is shown; "
              "another tree wants another overlay")
     if root == tree and (noted.commit is None or repository.commit_id(noted.commit) is None):
-        noted = noted._replace(commit=named.commit)
+        noted = with_commit(repository, git, noted, named.commit)
     overlay.write_note(noted)
     return noted
 
 
-def stands_there(repository: Repository, overlay: OverlayFolder, noted: Noted, commit: str | None,
-                 branch: str | None) -> bool:
+def with_commit(repository: Repository, git: GitFolder, noted: Noted, commit: str | None) -> Noted:
+    """The note of a folder that stands on that commit from now on; but where Git worked in it for another repository,
+    of which this one knows nothing, the note names the commit that it named."""
+    return noted if git.is_strange_to(repository, noted.tree, noted.commit) else noted._replace(commit=commit)
+
+
+def stands_there(repository: Repository, git: GitFolder, noted: Noted, commit: str | None, branch: str | None) -> bool:
     """Whether the folder, with its changes, stands on that commit, as after a commit of what it shows, and on no other
     branch."""
-    git = GitFolder(overlay.path)
     found = git.head_says(repository) if git.is_at(noted.tree) else None
     if found is None:
         return commit is not None and noted.commit == commit
@@ -225,6 +261,9 @@ class Asked:
     def look(self) -> Stand:
         """What the folder stands on, and where it isn't on a branch any more, that is kept until it is told."""
         noted, found = self.noted(), None
+        if self.git.is_strange_to(self.repository, noted.tree, noted.commit):
+            # That has the tree, and goes on with nothing that Git has there.
+            return Stand(None, None)
         if self.git.is_at(noted.tree):
             self.left = self.git.adopt(self.repository, noted.commit) or self.left
             found = self.git.stands_on(self.repository)
@@ -240,7 +279,11 @@ class Asked:
         """A file with the lines of what was changed, the overlay, and what the folder stands on. It may be in use."""
         told = folder / "changes"
         with open(told, "wb") as lines:
-            self.below.while_still(lambda: self.run(lines, "changes", "--running"))
+            try:
+                self.below.while_still(lambda: self.run(lines, "changes", "--running"))
+            except Refusal:
+                self.repository.check()
+                raise
         return {"lines": str(told), "overlay": self.overlay.path, **self.stand()._asdict()}
 
     def snapshot(self, fields: Fields, folder: pathlib.Path) -> Fields:
@@ -265,6 +308,7 @@ class Asked:
         self.branch = branch
         if self.git.is_at(noted.tree):
             self.git.go_on(self.repository, commit, branch)
+        self.taken = [place for place in self.taken if place != folder]
         return {}
 
     def end(self, fields: Fields, folder: pathlib.Path) -> Fields:
@@ -282,9 +326,20 @@ def ends_told(overlay: OverlayFolder) -> Iterator[None]:
     try:
         yield
     except Unclosed as problem:
-        raise Refusal(f"the overlay {overlay.path} wasn't closed well: {problem}") from None
+        raise Refusal(f"the overlay {overlay.path} wasn't closed well: {problem}{said_of_disk(overlay.path)}") from None
     except Unopened as problem:
-        raise Refusal(f"mountd wasn't opened again, and nothing is mounted any more: {problem}") from None
+        line = f"mountd wasn't opened again, and nothing is mounted any more: {problem}"
+        raise Refusal(f"{line}{said_of_disk(overlay.path)}") from None
+
+
+def said_of_disk(overlay: str) -> str:
+    """What a line about the overlay ends with, where its disk is full."""
+    with contextlib.suppress(OSError):
+        found = os.statvfs(overlay)
+        # Some disks have no number of files.
+        if found.f_bavail * found.f_frsize < FULL or found.f_files and not found.f_favail:
+            return "; the overlay's disk is full"
+    return ""
 
 
 @contextlib.contextmanager
@@ -296,7 +351,7 @@ def reachable(folder: str, answers: Answers, is_to_stay: bool) -> Iterator[threa
         try:
             turn = stack.enter_context(control.serving(folder, answers, is_to_stay))
         except (Refusal, OSError) as problem:
-            tell(f"what {folder} shows can't be told or committed: {problem}")
+            tell(f"what {folder} shows can't be told or committed: {control.said_of(problem)}")
         yield turn
 
 
@@ -310,15 +365,17 @@ def watched(asked: Asked, turn: threading.Lock) -> Iterator[None]:
         failed: tuple[object, ...] | None = None
         pause, again = 0.0, 0.0
         while not done.wait(SECONDS_BETWEEN_LOOKS):
-            signs = asked.git.signs(asked.repository)
-            # What can't be looked at as it is now is looked at again, and ever more seldom.
-            if signs == seen or signs == failed and time.monotonic() < again:
-                continue
-            pause = min(2 * pause, MOST_BETWEEN_LOOKS) if signs == failed else SECONDS_BETWEEN_LOOKS
-            failed, again = signs, time.monotonic() + pause
-            with contextlib.suppress(Refusal, OSError), turn:
-                asked.look()
-                seen, failed = signs, None
+            # Whatever goes wrong, who asks next is told, and we look on.
+            with contextlib.suppress(Exception):
+                signs = asked.git.signs(asked.repository)
+                # What can't be looked at as it is now is looked at again, and ever more seldom.
+                if signs == seen or signs == failed and time.monotonic() < again:
+                    continue
+                pause = min(2 * pause, MOST_BETWEEN_LOOKS) if signs == failed else SECONDS_BETWEEN_LOOKS
+                failed, again = signs, time.monotonic() + pause
+                with turn:
+                    asked.look()
+                    seen, failed = signs, None
     watching = threading.Thread(target=watch, daemon=True)
     watching.start()
     try:
@@ -338,10 +395,21 @@ def shown_till_the_end(showing: kernel.Showing) -> Iterator[None]:
         raise
 
 
+@contextlib.contextmanager
+def told_if_slow(line: str) -> Iterator[None]:
+    """Tells the line once, where the block isn't soon done."""
+    timer = threading.Timer(SECONDS_TO_OPEN, tell, [line])
+    timer.start()
+    try:
+        yield
+    finally:
+        timer.cancel()
+
+
 def show(words: argparse.Namespace, repository: Repository, noted: Noted, source: list[str], overlay: OverlayFolder,
          folder: str, shown: Callable[[], object]) -> None:
     """Shows the folder by `mountd fuse`, until nothing is mounted any more. Once it is shown, `shown` is told."""
-    os.makedirs(folder, exist_ok=True)
+    make_folder(folder)
     # Objects that lie here are read so soon that no other request need go before, and one thread wakes nobody.
     threads = words.threads or (THREADS if "--remote" in source else 1)
     showing = kernel.Showing(words.mountd, noted.tree, source, overlay.path, folder, SECONDS_LOCKED, noted.seconds,
@@ -349,7 +417,9 @@ def show(words: argparse.Namespace, repository: Repository, noted: Noted, source
     asked = Asked(showing, words.mountd, source, repository, words.revision, overlay)
     with kernel.ended_by_signals(showing):
         try:
-            showing.open()
+            with told_if_slow(f"the overlay {overlay.path} isn't open yet: after a kill all its files are looked at, "
+                              "which takes some seconds for thousands"):
+                showing.open()
         except Unopened as refusal:
             repair = [str(words.mountd), "repair", "--root", noted.tree, "--overlay", overlay.path]
             raise unopened(str(refusal), overlay.path, shlex.join(repair)) from None
@@ -372,7 +442,9 @@ def unopened(word: str, overlay: str, repair: str) -> Refusal:
     if word not in UNOPENED:
         return Refusal(f"mountd didn't start: {word}")
     line = f"the overlay {overlay} can't be opened: {word}, {UNOPENED[word]}"
-    return Refusal(f"{line}; this takes out what can't be read, and tells it: {repair}" if word in REPAIRED else line)
+    if word in REPAIRED:
+        return Refusal(f"{line}; this takes out what can't be read, and tells it: {repair}")
+    return Refusal(line + said_of_disk(overlay))
 
 
 def make_absolute(words: argparse.Namespace) -> None:
@@ -389,6 +461,8 @@ def run(words: argparse.Namespace) -> None:
     make_absolute(words)
     repository = Repository(words.repository)
     folder = mount_point(words.folder)
+    check_apart("repository", repository.path, folder)
+    check_hides_nothing(folder, repository)
     check_apart("overlay", words.overlay, folder)
     check_text(words.overlay or "")
     check_apart("file", words.background, folder)
@@ -396,15 +470,16 @@ def run(words: argparse.Namespace) -> None:
     with overlay_at(words.overlay, repository) as overlay:
         noted = tree_to_show(repository, words.revision, overlay)
         kept_tree.keep(repository, GitFolder(overlay.path).own_name(), noted)
+        kept_tree.tell_of_lacked(repository, overlay, noted.tree)
         with source_of(repository, noted.tree, words.ahead, words.log) as source:
             show(words, repository, noted, source, overlay, folder, shown)
 
 
 def number_of_threads(text: str) -> int:
-    number = int(text)
-    if not 1 <= number <= kernel.MOST_THREADS:
-        raise ValueError
-    return number
+    with contextlib.suppress(ValueError):
+        if 1 <= int(text) <= kernel.MOST_THREADS:
+            return int(text)
+    raise argparse.ArgumentTypeError(f"{text!r} is no number from 1 to {kernel.MOST_THREADS}")
 
 
 def parser() -> argparse.ArgumentParser:
@@ -430,6 +505,17 @@ def parser() -> argparse.ArgumentParser:
     return found
 
 
+# The words that name a path, as the usage has them.
+PATHS = {"repository": "REPO", "folder": "FOLDER", "overlay": "--overlay", "background": "--background"}
+
+
+def check_paths(words: argparse.Namespace) -> None:
+    """An empty path, as of a shell's variable that isn't set, would be the directory where the command is run."""
+    for name, shown in PATHS.items():
+        if vars(words).get(name) == "":
+            raise Refusal(f"{shown} is '', which is no path")
+
+
 # What is done with a folder that another run shows. A repository of such a name is named with its path, as `./commit`.
 COMMANDS: dict[str, tuple[Callable[[argparse.Namespace], None], Callable[[], argparse.ArgumentParser]]] = {
     "changes": (folder_changes.changes, folder_changes.changes_parser),
@@ -448,9 +534,19 @@ def main() -> int:
     command, parsed = COMMANDS.get("".join(sys.argv[1:2]), (run, parser))
     words = parsed().parse_args(sys.argv[1 if command is run else 2 :])
     signal.signal(signal.SIGTERM, lambda *_: sys.exit(1))
+    # What is held is let go, also where a terminal is closed; but for `nohup`.
+    if signal.getsignal(signal.SIGHUP) != signal.SIG_IGN:
+        signal.signal(signal.SIGHUP, lambda *_: sys.exit(1))
     try:
+        check_paths(words)
         command(words)
+        if sys.stdout is not None:
+            sys.stdout.flush()
     except (Refusal, OSError) as problem:
+        if isinstance(problem, BrokenPipeError) and command is not run:
+            # Who read what is printed wants no more of it: that ends us as it ends Git and `ls`.
+            signal.signal(signal.SIGPIPE, signal.SIG_DFL)
+            signal.raise_signal(signal.SIGPIPE)
         tell(control.said_of(problem))
         return 1
     except KeyboardInterrupt:

@@ -5,6 +5,9 @@ ours: who holds its lock has the overlay, also while mountd is closed and opened
 time of what comes from it, and on which commit the next one of the folder's is put. Since its lock is held no other
 file takes its place. Each line is as long as the one before it, in one sector of a disk, and is written over that at
 once: whatever is killed or fails, the old line or the new one is read.
+
+The file `trees`, which is ours too, tells each tree on which the overlay ever stood, a line each, once it was
+dematerialised: something in it may still come from each. An overlay of before that was kept has none.
 """
 
 import contextlib
@@ -19,11 +22,17 @@ from yakembi.git import Refusal
 
 NOTE = "mount-git"
 NOTE_LINE = re.compile(rb"([0-9a-f]{40}) ([0-9]+)(?: ([0-9a-f]{40}))?\n")
+TREES = "trees"
+TREE_LINE = re.compile(r"[0-9a-f]{40}\n")
 # Zeros before the seconds make each line as long as one of two ids and 2^64.
 NOTE_BYTES = 103
 NUMBERED = re.compile("0|[1-9][0-9]*")
 # Of a killed run: changes that aren't in numbered files yet.
 JOURNAL = "journal"
+# By one of these, or a numbered file, a folder is known as an overlay.
+KNOWN_BY = {NOTE, JOURNAL, "lock"}
+# What is in a disk's top before anything is.
+LOST_AND_FOUND = "lost+found"
 
 # Of mountd's files: a header and a body, which in file 0 begins with the tree's id.
 HEADER = 64
@@ -67,6 +76,25 @@ def is_held(path: str | os.PathLike[str]) -> bool:
     return False
 
 
+def make_folder(path: str | os.PathLike[str]) -> None:
+    """Makes it where it isn't there. What is there and is no folder, as a link that leads nowhere, is told as such."""
+    try:
+        os.makedirs(path, exist_ok=True)
+    except FileExistsError as problem:
+        raise NotADirectoryError(errno.ENOTDIR, os.strerror(errno.ENOTDIR), problem.filename) from None
+
+
+def check_ours(path: str | os.PathLike[str]) -> None:
+    """A Refusal, where the folder has something, and nothing of an overlay, as a working directory of somebody's."""
+    names = set(os.listdir(path)) - {LOST_AND_FOUND}
+    if names and names.isdisjoint(KNOWN_BY) and not any(map(NUMBERED.fullmatch, names)):
+        raise Refusal(f"{os.fspath(path)} is no overlay, and isn't empty")
+    note = os.path.join(path, NOTE)
+    # As the command's own file has that name, which would be written over.
+    if os.path.isfile(note) and os.path.getsize(note) > NOTE_BYTES:
+        raise Refusal(f"{os.fspath(path)} is no overlay: its file {NOTE} is no note of one")
+
+
 def sync_names(folder: str | os.PathLike[str]) -> None:
     """Waits until the disk has the names in the folder."""
     descriptor = os.open(folder, os.O_RDONLY | os.O_DIRECTORY | os.O_CLOEXEC)
@@ -80,16 +108,28 @@ class OverlayFolder:
     """The folder, made where it isn't there, and held until `close`."""
 
     def __init__(self, path: str | os.PathLike[str]) -> None:
-        os.makedirs(path, exist_ok=True)
+        make_folder(path)
+        check_ours(path)
         self.path = os.path.abspath(path)
-        self.place = os.open(self.path, os.O_PATH | os.O_DIRECTORY | os.O_CLOEXEC)
-        self.note = os.open(os.path.join(self.path, NOTE), os.O_RDWR | os.O_CREAT | os.O_CLOEXEC, 0o666)
+        note = os.path.join(self.path, NOTE)
+        with contextlib.ExitStack() as opened:
+            self.place = os.open(self.path, os.O_PATH | os.O_DIRECTORY | os.O_CLOEXEC)
+            opened.callback(os.close, self.place)
+            self.note = os.open(note, os.O_RDWR | os.O_CREAT | os.O_CLOEXEC, 0o666)
+            opened.callback(os.close, self.note)
+            try:
+                self.hold()
+            except OSError as problem:
+                raise OSError(problem.errno, problem.strerror, note) from None
+            opened.pop_all()
+
+    def hold(self) -> None:
+        """Takes the note's lock. `InUse`, where another run has it; an OSError, where the system gives none."""
         for _ in range(TRIES):
-            with contextlib.suppress(OSError):
+            with contextlib.suppress(BlockingIOError):
                 fcntl.flock(self.note, fcntl.LOCK_EX | fcntl.LOCK_NB)
                 return
             time.sleep(SECONDS_BETWEEN)
-        self.close()
         raise InUse(f"the overlay {self.path} is in use by another run of mount-git")
 
     def close(self) -> None:
@@ -132,6 +172,29 @@ class OverlayFolder:
         if os.pwrite(self.note, line, 0) != len(line):
             raise OSError(errno.EIO, "it isn't written whole")
         os.fsync(self.note)
+
+    def stood_on(self) -> set[str]:
+        """The trees on which it ever stood, as far as that is known. What a disk lost of the file says nothing."""
+        lines = self.file(TREES).decode(errors="replace").splitlines(keepends=True)
+        return {line.strip() for line in lines if TREE_LINE.fullmatch(line)}
+
+    def keep_stood_on(self, trees: set[str]) -> None:
+        """It knows these too from now on, and the disk has that: nothing comes from one that it doesn't know."""
+        known = self.stood_on()
+        if trees <= known:
+            return
+        file = os.path.join(self.path, TREES)
+        with open(f"{file}.new", "w") as new:
+            new.write("".join(f"{tree}\n" for tree in sorted(known | trees)))
+            new.flush()
+            os.fsync(new.fileno())
+        os.replace(f"{file}.new", file)
+        sync_names(self.path)
+
+    def forget_stood_on(self) -> None:
+        """Nothing comes from any tree yet."""
+        with contextlib.suppress(FileNotFoundError):
+            os.unlink(os.path.join(self.path, TREES))
 
     def lacked(self, tree: str) -> Refusal:
         """That a repository lacks the tree that it stands on."""

@@ -25,8 +25,14 @@ END_OF_NUMBERS = 1 << 63
 
 # The file of changes that aren't in the numbered files yet, and its records.
 JOURNAL = "journal"
-STORED, REMOVED, ELSEWHERE = SORTS = b"OVJS", b"OVJR", b"OVJE"
-RECORD_BYTES, RECORD_MOST = 48, 128 << 10
+STORED, BODY, PART, PARTS, REMOVED, ELSEWHERE = b"OVJS", b"OVJD", b"OVJP", b"OVJM", b"OVJR", b"OVJE"
+RECORD_BYTES, PART_BYTES, COUNT_BYTES, LENGTH_BYTES = 48, 28, 4, 8
+BODY_MOST = 4 << 20
+# How many bytes stand behind the fields of each sort of record at most.
+MOST_BEHIND = {STORED: 128 << 10, BODY: BODY_MOST, PART: PART_BYTES + BODY_MOST,
+               PARTS: LENGTH_BYTES + 2 * PART_BYTES + BODY_MOST, REMOVED: 0, ELSEWHERE: 0}
+# So many records tell one body at most: all of it, and then what has changed.
+RECORDS_MOST = 256
 STATE_NUMBER = 0
 
 # What the kind byte and the origin byte of an entry say.
@@ -203,14 +209,15 @@ def stored(folder: pathlib.Path) -> dict[int, bytes]:
 
 
 def records(journal: bytes) -> Iterator[tuple[bytes, int, bytes]]:
-    """The records of a journal up to the first that isn't whole: which each is, its number, its bytes."""
+    """The records of a journal up to the first that isn't whole: which each is, its number, what stands behind its
+    fields. Whether a part fits the body before it isn't looked at."""
     at = 0
     while len(journal) - at >= RECORD_BYTES:
         digest, sort = journal[at : at + 20], journal[at + 20 : at + 24]
         number, _, size = struct.unpack_from(">QQQ", journal, at + 24)
         end = at + RECORD_BYTES + size
         told = journal[at + 20 : end]
-        if sort not in SORTS or number == STATE_NUMBER or size > RECORD_MOST or end > len(journal):
+        if number == STATE_NUMBER or size > MOST_BEHIND.get(sort, -1) or end > len(journal):
             return
         if hashlib.sha1(told).digest() != digest:
             return
@@ -218,14 +225,64 @@ def records(journal: bytes) -> Iterator[tuple[bytes, int, bytes]]:
         at = end
 
 
+class Told(NamedTuple):
+    """The body of a directory as a journal tells it: where the last of so many records begins, and the body."""
+
+    at: int
+    records: int
+    body: bytes
+
+
+def with_part(body: bytes, part: bytes) -> bytes | None:
+    """What a part makes of a body; None where it doesn't fit."""
+    if len(part) < PART_BYTES or len(body) < COUNT_BYTES:
+        return None
+    _, front, back = struct.unpack_from(">QQQ", part)
+    rows = body[COUNT_BYTES:]
+    if front + back > len(rows):
+        return None
+    return part[24:28] + rows[:front] + part[PART_BYTES:] + rows[len(rows) - back :]
+
+
+def parts_of(sort: bytes, data: bytes) -> list[bytes]:
+    """The parts of a record, each of the body that the one before it makes."""
+    if sort == PART:
+        return [data]
+    behind = data[LENGTH_BYTES:]
+    length = int.from_bytes(data[:LENGTH_BYTES], "big")
+    return [behind[:length], behind[length:]] if LENGTH_BYTES <= len(data) and length <= len(behind) else [b""]
+
+
+def with_change(before: Told | None, at: int, sort: bytes, data: bytes) -> Told | None:
+    """What a record makes of the body before it; None where it doesn't fit."""
+    parts = parts_of(sort, data)
+    if before is None or before.records >= RECORDS_MOST or parts[0][:8] != before.at.to_bytes(8, "big"):
+        return None
+    body: bytes | None = before.body
+    for part in parts:
+        if body is not None:
+            body = with_part(body, part)
+    return Told(at, before.records + 1, body) if body is not None and len(body) <= BODY_MOST else None
+
+
 def changes(journal: bytes) -> dict[int, bytes | None]:
     """What a journal says of each number; None where its file was removed."""
     said: dict[int, bytes | None] = {}
-    for sort, number, body in records(journal):
-        if sort == ELSEWHERE:
-            said.pop(number, None)
+    bodies: dict[int, Told] = {}
+    at = 0
+    for sort, number, data in records(journal):
+        told = Told(at, 1, data) if sort == BODY else None
+        if sort in (PART, PARTS) and not (told := with_change(bodies.get(number), at, sort, data)):
+            break
+        if told:
+            bodies[number] = told
+            said[number] = file_bytes(DIRECTORY, told.body)
         else:
-            said[number] = body if sort == STORED else None
+            bodies.pop(number, None)
+            said[number] = data if sort == STORED else None
+            if sort == ELSEWHERE:
+                del said[number]
+        at += RECORD_BYTES + len(data)
     return said
 
 

@@ -9,7 +9,7 @@ import sys
 from collections.abc import Iterator, Sequence
 from typing import BinaryIO
 
-from yakembi.addresses import socket_path
+from yakembi.addresses import is_text, socket_path
 from yakembi.git import Refusal, Repository, said
 
 # The folder of the commands, which has the package.
@@ -45,15 +45,6 @@ def check_text(overlay: str) -> None:
     """A Refusal, where mountd can't be told the overlay's path."""
     if not is_text(overlay):
         raise Refusal("the overlay's path isn't UTF-8, as mountd's words are")
-
-
-def is_text(path: str) -> bool:
-    """Whether the path's bytes are UTF-8."""
-    try:
-        path.encode()
-    except UnicodeEncodeError:
-        return False
-    return True
 
 
 @contextlib.contextmanager

@@ -21,8 +21,9 @@ from yakembi.git import Refusal
 # most.
 SECONDS_BUSY = 60.0
 SECONDS_BETWEEN, MOST_BETWEEN = 0.002, 0.05
-# As /proc tells the call in which a thread stands (x86-64): read(2), by which messages come, recvfrom(2), by which
-# objects come, and futex(2).
+# As /proc tells the call in which a thread stands: read(2), by which messages come, recvfrom(2), by which objects come,
+# and futex(2). On another machine these are the numbers of other calls.
+MACHINE = "x86_64"
 READ, RECEIVE, FUTEX = "0", "45", "202"
 # The descriptor by which messages come.
 MESSAGES = 0
@@ -43,6 +44,9 @@ def is_waiting(call: str) -> bool:
 
 def is_between_messages(process: int) -> bool:
     """Whether no thread of a stopped process is at work. A Refusal, where that can't be told."""
+    machine = os.uname().machine
+    if machine != MACHINE:
+        raise Refusal(f"what mountd is at can be told on {MACHINE} alone, and this is {machine}")
     try:
         calls = [(task / "syscall").read_text() for task in pathlib.Path(f"/proc/{process}/task").iterdir()]
     except PermissionError:

@@ -18,21 +18,15 @@ ghost use Rattle.eden_dematerialise.specs.Dematerialising.{ShowTheSame, Stand, m
 ghost use Rattle.eden_dematerialise.specs.Settling.{AreFrom, AreLed, AreSettled};
 ghost use Rattle.eden_dematerialise.specs.Settling.{DematerialisesThen, HoldsThen, IsOf, LeadsTo};
 
-use crate::entries::{entries_of, object_for};
+use crate::entries::object_for;
 use crate::fault::DematerialiseFault;
 use crate::unread::remove_unread;
 use eden_model::{Id, Kind, Mode, Origin, TreeEntry, World};
-use eden_overlay::{Files, FilesFault};
+use eden_overlay::{Files, FilesFault, ROOT_NUMBER, STATE_NUMBER, entries_of};
 use eden_overlay_format::{Listing, State, StoredEntry, decode_state, encode_state, has_numbers};
 use eden_snapshot::{LEVELS, place_named, tree_entries};
 use eden_source::Source;
 use std::alloc::{AllocError, Global};
-
-/// The number of the root's file.
-pub(crate) const ROOT_NUMBER: u64 = 1;
-
-/// The number of the state's file.
-const STATE_NUMBER: u64 = 0;
 
 /// What was made of a directory's entries.
 #[derive(Drop)]

@@ -7,8 +7,6 @@ ghost use Rattle.eden_model.specs.declared.kind.Origin.TheVariants as origin;
 ghost use Rattle.eden_object.specs.declared.word.Word.TheVariants as word;
 ghost use Rattle.eden_object.specs.Frames.{frame};
 ghost use Rattle.eden_overlay_format.specs.Content.{content_most};
-ghost use Rattle.eden_overlay_format.specs.Directory.{AreStorable};
-ghost use Rattle.eden_overlay.specs.Held.{HoldsEntries, entries_at};
 ghost use Rattle.eden_snapshot.specs.Commits.{place_named};
 ghost use Rattle.eden_snapshot.specs.Written.{IsIdOf, mode_of};
 ghost use Rattle.eden_dematerialise.specs.Dematerialising.{IsAmong, IsHad};
@@ -17,32 +15,10 @@ use crate::fault::DematerialiseFault;
 use eden_model::{Id, Key, Kind, Mode, ObjKind, Origin, TreeEntry, World};
 use eden_object::{Object, encode_blob, id_of};
 use eden_overlay::{Files, FilesFault};
-use eden_overlay_format::{DecodeFault, StoredEntry, decode_dir, decode_file};
+use eden_overlay_format::{StoredEntry, decode_file};
 use eden_snapshot::place_named;
 use eden_source::Source;
 use std::alloc::Global;
-
-/// The entries of the directory of that number; None if its file isn't there, or holds none.
-pub(crate) fn entries_of<W: World, F: Files<W>>(
-    alloc: Global,
-    files: &mut F,
-    number: u64,
-) -> Result<Option<Vec<StoredEntry>>, FilesFault>
-    ensures held { W.honest
-        → IfOk result (λ o. IfSome o (λ v. HoldsEntries (F.stored files.old) number v.items)) }
-    ensures none { W.honest → IfOk result (λ o. o ≡ None → entries_at (F.stored files.old) number ≡ None) }
-    ensures storable { IfOk result (λ o. IfSome o (λ v. AreStorable v.items)) }
-    ensures unchanged { W.honest → F.stored files.new ≡ F.stored files.old }
-{
-    match files.read(alloc, number)? {
-        None => Ok(None),
-        Some(file) => match decode_dir(alloc, &file) {
-            Ok(entries) => Ok(Some(entries)),
-            Err(DecodeFault::Refused(_)) => Ok(None),
-            Err(DecodeFault::Memory) => Err(FilesFault::Memory),
-        },
-    }
-}
 
 /// The commit's object that has the content of the entry's own file, if the commit has such a file at its path. A
 /// content that can't be read is none that the commit has.

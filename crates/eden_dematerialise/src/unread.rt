@@ -7,11 +7,9 @@ ghost use Rattle.eden_overlay.specs.Soundness.{IsLive, Names};
 ghost use Rattle.eden_dematerialise.specs.Dematerialising.{HasNoneUnread, Removes};
 ghost use Rattle.eden_dematerialise.specs.Unread.{Adds, AreAllMetFrom, AreEntries, AreMetOf, Stay};
 
-use crate::dematerialising::ROOT_NUMBER;
-use crate::entries::entries_of;
 use crate::fault::DematerialiseFault;
 use eden_model::{Kind, Origin, World};
-use eden_overlay::{Files, FilesFault};
+use eden_overlay::{Files, FilesFault, ROOT_NUMBER, entries_of};
 use eden_overlay_format::StoredEntry;
 use eden_snapshot::LEVELS;
 use std::alloc::Global;

@@ -14,7 +14,7 @@ use Rattle.eden_overlay.specs.declared.files.FilesFault.{FilesFault}
 use Rattle.eden_overlay.specs.Files.{Stored, put}
 use Rattle.eden_overlay.proofs.Puts.{put_apart}
 use Rattle.eden_overlay.specs.Held.{HoldsContent}
-use Rattle.eden_overlay.specs.Keeping.{AreKeptOf, Fits, HasRoom, IsEndOf, IsLast, IsLeft, is_of, kept_bytes, kept_content, kept_of, of_others}
+use Rattle.eden_overlay.specs.Keeping.{AreKeptOf, Fits, HasRoom, IsEndOf, IsLast, IsLeft, kept_bytes, kept_content, kept_of, of_others}
 
 -- the contents of other files, where at most that one changed
 pub others_kept : (F G : Stored) (k : ℕ) → ((q : ℕ) → k ≢ q → G q ≡ F q) → (kept : List Kept) → AreKeptOf F kept → AreKeptOf G (of_others k kept)

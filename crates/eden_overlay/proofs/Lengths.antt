@@ -1,5 +1,5 @@
 -- What a stored file's head tells, of its content and of one that is kept.
-use Rattle.std.proofs.Common.{◌≡◌, ℕ, ◌==◌, Bool, true, false, cond, List, [], ◌∷◌, length, take, Option, Some, None, Ok, Err, IfOk, IfErr, IsSomeAnd, refl, sym, subst, ◌∙◌}
+use Rattle.std.proofs.Common.{◌≡◌, ℕ, ◌==◌, true, false, cond, List, [], ◌∷◌, length, take, Option, Some, None, Ok, Err, IfOk, IfErr, IsSomeAnd, refl, sym, subst, ◌∙◌}
 use Rattle.std.specs.Option.{option_and_then, option_map}
 use Rattle.std.proofs.lemmas.Bool.{eqb-true}
 use Rattle.eden_overlay_format.specs.declared.header.Head.{Head}

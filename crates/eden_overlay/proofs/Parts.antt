@@ -1,5 +1,5 @@
 -- Parts of a content are those of its file.
-use Rattle.std.proofs.Common.{◌≡◌, ◌≤◌, ◌<◌, ◌+◌, ℕ, zero, suc, nat_lt, add-one, true, false, List, [], ◌∷◌, length, take, drop, Option, Some, None, option_map, IsSome, refl, sym, ap, subst, ◌∙◌}
+use Rattle.std.proofs.Common.{◌≡◌, ◌≤◌, ◌<◌, ◌+◌, ℕ, zero, suc, nat_lt, add-one, true, false, List, [], ◌∷◌, length, take, drop, Some, None, option_map, IsSome, refl, sym, ap, subst, ◌∙◌}
 use Rattle.std.proofs.Common.{arith}
 use Rattle.std.specs.Option.{is_some, option_and_then}
 use Rattle.std.proofs.Math.ListN.{drop_of_length-le}

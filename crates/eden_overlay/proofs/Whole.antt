@@ -1,7 +1,6 @@
 -- What is kept and known of files, while some change.
-use Rattle.std.proofs.Common.{◌≡◌, ◌≢◌, ℕ, ◌==◌, ◌++◌, ◌&&◌, Bool, true, false, not, cond, List, [], ◌∷◌, filter, length, ◌⊎◌, inl, inr}
-use Rattle.std.proofs.Common.{Result, Ok, Err, OnOk, OnErr, Option, Some, None, IsSome, refl, sym, ap, subst, ◌∙◌}
-use Rattle.std.specs.List.{list_any}
+use Rattle.std.proofs.Common.{◌≡◌, ◌≢◌, ℕ, ◌==◌, ◌&&◌, Bool, true, false, not, List, [], length, ◌⊎◌, inl, inr}
+use Rattle.std.proofs.Common.{Result, Ok, Err, OnOk, OnErr, Option, IsSome, refl, sym, ap, subst, ◌∙◌}
 use Rattle.std.specs.Option.{option_and_then}
 use Rattle.std.proofs.lemmas.Bool.{eqb-true, eqb-false, not-true}
 use Rattle.std.proofs.lemmas.Map.Views.{any-filter_same}
@@ -11,7 +10,7 @@ use Rattle.eden_overlay.specs.declared.recent.Kept.{Kept}
 use Rattle.eden_overlay.specs.declared.files.FilesFault.{FilesFault}
 use Rattle.eden_overlay.specs.Files.{Stored, put}
 use Rattle.eden_overlay.specs.Held.{HoldsContent, content_at}
-use Rattle.eden_overlay.specs.Keeping.{AreKeptOf, AreKnownOf, AreWhole, AddsOne, IsLast, IsLeft, is_one_of, of_others, other_numbers}
+use Rattle.eden_overlay.specs.Keeping.{AreKnownOf, AreWhole, AddsOne, IsLast, IsLeft, is_one_of, of_others, other_numbers}
 use Rattle.eden_overlay.proofs.Kept.{kept_beside, kept_still, kept_with, none_kept}
 use Rattle.eden_overlay.proofs.Puts.{put_apart}
 

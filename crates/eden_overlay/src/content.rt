@@ -1,4 +1,4 @@
-ghost use Rattle.std.specs.Prelude.{◌≡◌, ◌≤◌, ℕ, List, Some, length, drop, IfOk, IfErr};
+ghost use Rattle.std.specs.Prelude.{◌≡◌, ◌≤◌, Some, length, drop, IfOk, IfErr};
 ghost use Rattle.eden_overlay_format.specs.Stored.{Refuses};
 ghost use Rattle.eden_overlay_format.specs.Content.{content_most};
 ghost use Rattle.eden_overlay_format.specs.Values.{content_in};
@@ -35,10 +35,11 @@ impl Content {
         Ok(Content { file })
     }
 
-    /// The content of a file that was encoded as one.
-    pub(crate) fn of_encoded(file: Vec<u8>) -> Content
-        requires { (content : List ℕ) × (content_in file.items ≡ Some content) }
-        ensures { content_in file.items ≡ Some result }
+    /// The content behind room for a header.
+    pub(crate) fn of_unsealed(file: Vec<u8>) -> Content
+        requires room { 64 ≤ length file.items }
+        requires short { length (drop 64 file.items) ≤ content_most }
+        ensures { result ≡ drop 64 file.items }
     {
         Content { file }
     }

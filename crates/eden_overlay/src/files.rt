@@ -4,7 +4,7 @@ ghost use Rattle.eden_overlay.specs.Getting.{files_fault_number};
 ghost use Rattle.eden_overlay.specs.declared.files.FilesFault.TheVariants as fault;
 
 use eden_model::World;
-use eden_overlay_format::Head;
+use eden_overlay_format::{Head, Identifier, header_of};
 use std::alloc::{AllocError, AllocFailed, Global};
 use thiserror::Error;
 
@@ -57,6 +57,7 @@ pub trait Files<W: World>: Drop {
     ghost use Rattle.std.specs.Ordering.{nat_cmp};
     ghost use Rattle.std.specs.List.Sorted.{IsStrictlySortedBy};
     ghost use Rattle.eden_model.specs.Failures.{Counted};
+    ghost use Rattle.eden_overlay_format.specs.Stored.{written};
     ghost use Rattle.eden_overlay.specs.Files.{Stored, put, part, IsHeadOf, Lists};
     ghost use Rattle.eden_overlay.specs.declared.files.FilesFault.TheVariants.{Device};
 
@@ -77,7 +78,8 @@ pub trait Files<W: World>: Drop {
         ensures counted { Counted (result ≡ Err Device) (failures self.old) (failures self.new) };
 
     /// The first 64 bytes of the file with that number, and its length, or None where there is none. The rest isn't
-    /// read, and it takes no memory: its one error is the device's.
+    /// read where the file lies by itself. Its one error is the device's; want of memory counts as that, where a file
+    /// has to be put together.
     fn head(&mut self, number: u64) -> Result<Option<Head>, FilesFault>
         ensures found { W.honest → IfOk result (IsHeadOf (stored self.old number)) }
         ensures unchanged { W.honest → stored self.new ≡ stored self.old }
@@ -119,6 +121,24 @@ pub trait Files<W: World>: Drop {
         ensures err { W.honest → OnErr result (stored self.new ≡ stored self.old) }
         ensures counted { Counted (result ≡ Err Device) (failures self.old) (failures self.new) };
 
+    /// Stores the file that has this body, behind the header that it has under that identifier, as `replace` does. If
+    /// it is replaced again before anything needs the header, that needn't be made.
+    fn replace_body(
+        &mut self,
+        alloc: Global,
+        number: u64,
+        identifier: Identifier,
+        body: &[u8],
+    ) -> Result<(), FilesFault>
+        ensures ok { W.honest
+            → OnOk result (stored self.new ≡ put (stored self.old) number (Some (written identifier body.now))) }
+        ensures err { W.honest → OnErr result (stored self.new ≡ stored self.old) }
+        ensures counted { Counted (result ≡ Err Device) (failures self.old) (failures self.new) }
+    {
+        let header = header_of(identifier, body);
+        self.replace_joined(alloc, number, &header, body)
+    }
+
     /// Removes the file of that number; Ok too where there is none. It takes no memory: its one error is the device's.
     fn remove(&mut self, number: u64) -> Result<(), FilesFault>
         ensures ok { W.honest → OnOk result (stored self.new ≡ put (stored self.old) number None) }
@@ -140,8 +160,8 @@ pub trait Files<W: World>: Drop {
         ensures counted { Counted (result ≡ Err Device) (failures self.old) (failures self.new) };
 }
 
-// The count of failures after that answer.
-pub(crate) fn count<T>(failures: u64, answer: &Result<T, FilesFault>) -> u64
+/// The count of failures after that answer, where there were so many before. It stays at 2^64 - 1.
+pub fn count_failures<T>(failures: u64, answer: &Result<T, FilesFault>) -> u64
     ensures failed { answer.now ≡ Err fault.Device → result ≡ one_more failures }
     ensures passed { answer.now ≢ Err fault.Device → result ≡ failures }
 {

@@ -6,17 +6,18 @@ ghost use Rattle.eden_model.specs.Failures.{Counted};
 ghost use Rattle.eden_overlay.specs.InFolder.{longest_stored, of_folder};
 ghost use Rattle.eden_overlay.specs.declared.files.FilesFault.TheVariants as fault;
 
-use crate::files::{Files, FilesFault, count};
-use crate::names::{Sought, file_path, number_sought, unfinished_path};
+use crate::files::{Files, FilesFault, count_failures};
+use crate::mark;
+use crate::names::{Sought, file_path, number_sought, rising, unfinished_path};
+use crate::overlay::STATE_NUMBER;
 use crate::tidy::Removed;
-use crate::unsynced::{Unsynced, sync_all};
+use crate::unsynced::{Unsynced, lacking, sync_all, to_mark};
 use eden_model::Outside;
 use eden_overlay_format::Head;
 use eden_plain_files::{
-    Durability, FolderFault, Links, entry_in, read_file, read_front, read_part, remove_file,
-    replace_file,
+    FolderFault, Links, entry_in, read_file, read_front, read_part, remove_file, replace_file,
 };
-use std::alloc::{Alloc, AllocError, Allocator, Global};
+use std::alloc::{Alloc, Allocator, Global};
 use std::collections::BTreeSet;
 use std::fs::{self, DirEntry};
 use std::marker::Model;
@@ -70,7 +71,24 @@ impl<R: rt::Files + Alloc + Clone + Drop> FolderFiles<R> {
         ensures path { self.new.path ≡ self.old.path }
     {
         let answer = remove_all_unfinished(&self.files, alloc, &self.folder);
-        self.failures = count(self.failures, &answer);
+        self.failures = count_failures(self.failures, &answer);
+        answer
+    }
+}
+
+impl<R: rt::Files> FolderFiles<R> {
+    // Stores the pieces, one behind the other, as the whole file of that number.
+    fn store(&mut self, alloc: Global, number: u64, pieces: &[&[u8]]) -> Result<(), FilesFault>
+        ensures counted { Counted (result ≡ Err fault.Device) self.old.failures self.new.failures }
+        ensures path { self.new.path ≡ self.old.path }
+    {
+        let (files, folder, unsynced) = (&self.files, &self.folder, &mut self.unsynced);
+        let answer = if number == STATE_NUMBER {
+            store_state(files, alloc, folder, pieces, unsynced)
+        } else {
+            store_number(files, alloc, folder, number, pieces, unsynced)
+        };
+        self.failures = count_failures(self.failures, &answer);
         answer
     }
 }
@@ -94,7 +112,7 @@ impl<R: rt::Files + Alloc + Clone + Drop> Files<Outside> for FolderFiles<R> {
         ensures bounded { IfOk result (λ o. IfSome o (λ v. length v.items ≤ longest_stored)) }
     {
         let answer = read_number(&self.files, alloc, &self.folder, number);
-        self.failures = count(self.failures, &answer);
+        self.failures = count_failures(self.failures, &answer);
         answer
     }
 
@@ -106,7 +124,7 @@ impl<R: rt::Files + Alloc + Clone + Drop> Files<Outside> for FolderFiles<R> {
         ensures bounded { IfOk result (λ o. IfSome o (λ head. head.len ≤ longest_stored)) }
     {
         let answer = head_number(&self.files, &self.folder, number);
-        self.failures = count(self.failures, &answer);
+        self.failures = count_failures(self.failures, &answer);
         answer
     }
 
@@ -123,7 +141,7 @@ impl<R: rt::Files + Alloc + Clone + Drop> Files<Outside> for FolderFiles<R> {
         ensures bounded { IfOk result (λ o. IfSome o (λ v. length v.items ≤ most)) }
     {
         let answer = part_number(&self.files, alloc, &self.folder, number, from, most);
-        self.failures = count(self.failures, &answer);
+        self.failures = count_failures(self.failures, &answer);
         answer
     }
 
@@ -133,17 +151,7 @@ impl<R: rt::Files + Alloc + Clone + Drop> Files<Outside> for FolderFiles<R> {
         ensures counted { Counted (result ≡ Err fault.Device) self.old.failures self.new.failures }
         ensures path { self.new.path ≡ self.old.path }
     {
-        let durability = self.unsynced.replaces();
-        let answer = replace_number(
-            &self.files,
-            alloc,
-            &self.folder,
-            number,
-            &[bytes],
-            durability,
-        );
-        self.failures = count(self.failures, &answer);
-        answer
+        self.store(alloc, number, &[bytes])
     }
 
     fn replace_joined(
@@ -156,40 +164,36 @@ impl<R: rt::Files + Alloc + Clone + Drop> Files<Outside> for FolderFiles<R> {
         ensures counted { Counted (result ≡ Err fault.Device) self.old.failures self.new.failures }
         ensures path { self.new.path ≡ self.old.path }
     {
-        let pieces = [front, behind];
-        let durability = self.unsynced.replaces();
-        let answer = replace_number(
-            &self.files,
-            alloc,
-            &self.folder,
-            number,
-            &pieces,
-            durability,
-        );
-        self.failures = count(self.failures, &answer);
-        answer
+        self.store(alloc, number, &[front, behind])
     }
 
+    /// Which state it was is kept in mind: the mark that the last run left counts beside that one alone.
     fn remove(&mut self, number: u64) -> Result<(), FilesFault>
         ensures fault { IfErr result (λ f. f ≡ fault.Device) }
         ensures counted { Counted (result ≡ Err fault.Device) self.old.failures self.new.failures }
         ensures path { self.new.path ≡ self.old.path }
     {
         self.unsynced.removes();
+        if number == STATE_NUMBER {
+            if let Ok(Some(state)) = mark::state_file(&self.files, &self.folder) {
+                self.unsynced.opens(state);
+            }
+        }
         let answer = remove_number(&self.files, &self.folder, number);
-        self.failures = count(self.failures, &answer);
+        self.failures = count_failures(self.failures, &answer);
         answer
     }
 
-    /// Waits for all files and their names the first time, and then for the names that came or went: the files that are
-    /// stored from then on have their bytes on the disk. From a failure of the disk on it is `Device`: whether the disk
-    /// has what was stored before isn't known any more.
+    /// Waits for the names that came or went, and the first time for the files that may lack their bytes: those that
+    /// this run stored, and of earlier runs those that the mark beside the last state names, or all where there was
+    /// none. The files that are stored from then on have their bytes on the disk. From a failure of the disk on it is
+    /// `Device`: whether the disk has what was stored before isn't known any more.
     fn sync(&mut self, alloc: Global) -> Result<(), FilesFault>
         ensures counted { Counted (result ≡ Err fault.Device) self.old.failures self.new.failures }
         ensures path { self.new.path ≡ self.old.path }
     {
         let answer = sync_folder(&self.files, alloc, &self.folder, &mut self.unsynced);
-        self.failures = count(self.failures, &answer);
+        self.failures = count_failures(self.failures, &answer);
         answer
     }
 
@@ -199,7 +203,12 @@ impl<R: rt::Files + Alloc + Clone + Drop> Files<Outside> for FolderFiles<R> {
         ensures rising { IfOk result (λ v. IsStrictlySortedBy nat_cmp v.items) }
     {
         let answer = list_folder(&self.files, alloc, &self.folder, Sought::Files);
-        self.failures = count(self.failures, &answer);
+        if let Ok(numbers) = &answer {
+            if numbers.is_empty() {
+                self.unsynced.begins();
+            }
+        }
+        self.failures = count_failures(self.failures, &answer);
         answer
     }
 }
@@ -274,14 +283,50 @@ fn part_number<R: rt::Files>(
     }
 }
 
-fn replace_number<R: rt::Files>(
+// A mark that an earlier run left goes first, if it would count beside what is stored now and say nothing of it.
+fn store_number<R: rt::Files>(
     files: &R,
     alloc: Global,
     folder: &PathBuf,
     number: u64,
     pieces: &[&[u8]],
-    durability: Durability,
+    unsynced: &mut Unsynced,
 ) -> Result<(), FilesFault> {
+    if unsynced.has_old_mark() {
+        mark::remove(files, folder)?;
+        unsynced.unmarks();
+    }
+    put_number(files, alloc, folder, number, pieces, unsynced)
+}
+
+// Stores the state, and a mark beside it of what the disk may lack. The one of before goes first, since a file system
+// may tell two states as one. Without a mark the next run waits for all files.
+fn store_state<R: rt::Files>(
+    files: &R,
+    alloc: Global,
+    folder: &PathBuf,
+    pieces: &[&[u8]],
+    unsynced: &mut Unsynced,
+) -> Result<(), FilesFault> {
+    let told = to_mark(files, alloc, folder, unsynced);
+    mark::remove(files, folder)?;
+    unsynced.unmarks();
+    put_number(files, alloc, folder, STATE_NUMBER, pieces, unsynced)?;
+    if let Some(numbers) = told {
+        let _ = mark::write(files, alloc, folder, &numbers);
+    }
+    Ok(())
+}
+
+fn put_number<R: rt::Files>(
+    files: &R,
+    alloc: Global,
+    folder: &PathBuf,
+    number: u64,
+    pieces: &[&[u8]],
+    unsynced: &mut Unsynced,
+) -> Result<(), FilesFault> {
+    let durability = unsynced.replaces(alloc, number);
     let path = file_path(folder, number)?;
     replace_file(files, alloc, path.as_str(), pieces, durability)?;
     Ok(())
@@ -333,11 +378,11 @@ fn sync_folder<R: rt::Files + Alloc + Clone + Drop>(
     unsynced: &mut Unsynced,
 ) -> Result<(), FilesFault> {
     unsynced.promise();
-    if unsynced.has_files {
-        let numbers = list_folder(files, alloc, folder, Sought::Files)?;
-        return sync_all(files, folder, &numbers, unsynced);
-    }
-    sync_all(files, folder, &[], unsynced)
+    let numbers = match lacking(files, alloc, folder, unsynced)? {
+        Some(numbers) => numbers,
+        None => list_folder(files, alloc, folder, Sought::Files)?,
+    };
+    sync_all(files, folder, &numbers, unsynced)
 }
 
 fn remove_all_unfinished<R: rt::Files + Alloc + Clone + Drop>(
@@ -370,11 +415,4 @@ fn remove_one_unfinished<R: rt::Files>(
         Ok(_) | Err(FolderFault::Missing) => Ok(Removed::nothing()),
         Err(fault) => Err(FilesFault::from(fault)),
     }
-}
-
-fn rising(alloc: Global, numbers: &BTreeSet<u64>) -> Result<Vec<u64>, AllocError>
-    ensures items { IfOk result (λ v. v.items ≡ numbers.now.keys) }
-    ensures rising { IfOk result (λ v. IsStrictlySortedBy nat_cmp v.items) }
-{
-    numbers.iter().copied().collect(alloc)
 }

@@ -5,13 +5,14 @@ ghost use Rattle.std.specs.Prelude.{option_map};
 ghost use Rattle.std.specs.Ordering.{nat_cmp};
 ghost use Rattle.std.specs.List.Sorted.{IsStrictlySortedBy};
 ghost use Rattle.eden_model.specs.Failures.{Counted};
+ghost use Rattle.eden_overlay_format.specs.Stored.{written};
 ghost use Rattle.eden_overlay.specs.Gates.{Calls};
 ghost use Rattle.eden_overlay.specs.Files.{IsHeadOf, Lists, part, put};
 ghost use Rattle.eden_overlay.specs.declared.files.FilesFault.TheVariants as fault;
 
-use crate::files::{Files, FilesFault, count};
+use crate::files::{Files, FilesFault, count_failures};
 use eden_model::World;
-use eden_overlay_format::Head;
+use eden_overlay_format::{Head, Identifier};
 use std::alloc::Global;
 use std::cell::Cell;
 use std::marker::Model;
@@ -152,7 +153,7 @@ impl<W: World, F: Files<W>, G: Gate> Files<W> for GatedFiles<F, G> {
         } else {
             Err(FilesFault::Device)
         };
-        self.failures = count(self.failures, &answer);
+        self.failures = count_failures(self.failures, &answer);
         answer
     }
 
@@ -168,7 +169,7 @@ impl<W: World, F: Files<W>, G: Gate> Files<W> for GatedFiles<F, G> {
         } else {
             Err(FilesFault::Device)
         };
-        self.failures = count(self.failures, &answer);
+        self.failures = count_failures(self.failures, &answer);
         answer
     }
 
@@ -191,7 +192,7 @@ impl<W: World, F: Files<W>, G: Gate> Files<W> for GatedFiles<F, G> {
         } else {
             Err(FilesFault::Device)
         };
-        self.failures = count(self.failures, &answer);
+        self.failures = count_failures(self.failures, &answer);
         answer
     }
 
@@ -207,7 +208,7 @@ impl<W: World, F: Files<W>, G: Gate> Files<W> for GatedFiles<F, G> {
         } else {
             Err(FilesFault::Device)
         };
-        self.failures = count(self.failures, &answer);
+        self.failures = count_failures(self.failures, &answer);
         answer
     }
 
@@ -229,7 +230,29 @@ impl<W: World, F: Files<W>, G: Gate> Files<W> for GatedFiles<F, G> {
         } else {
             Err(FilesFault::Device)
         };
-        self.failures = count(self.failures, &answer);
+        self.failures = count_failures(self.failures, &answer);
+        answer
+    }
+
+    fn replace_body(
+        &mut self,
+        alloc: Global,
+        number: u64,
+        identifier: Identifier,
+        body: &[u8],
+    ) -> Result<(), FilesFault>
+        ensures ok { W.honest → OnOk result
+            (F.stored self.new.files ≡ put (F.stored self.old.files) number (Some (written identifier body.now))) }
+        ensures err { W.honest → OnErr result (F.stored self.new.files ≡ F.stored self.old.files) }
+        ensures counted { Counted (result ≡ Err fault.Device) self.old.failures self.new.failures }
+        ensures calls { Calls G.passed self.old result self.new }
+    {
+        let answer = if self.gate.passes() {
+            self.files.replace_body(alloc, number, identifier, body)
+        } else {
+            Err(FilesFault::Device)
+        };
+        self.failures = count_failures(self.failures, &answer);
         answer
     }
 
@@ -245,7 +268,7 @@ impl<W: World, F: Files<W>, G: Gate> Files<W> for GatedFiles<F, G> {
         } else {
             Err(FilesFault::Device)
         };
-        self.failures = count(self.failures, &answer);
+        self.failures = count_failures(self.failures, &answer);
         answer
     }
 
@@ -259,7 +282,7 @@ impl<W: World, F: Files<W>, G: Gate> Files<W> for GatedFiles<F, G> {
         } else {
             Err(FilesFault::Device)
         };
-        self.failures = count(self.failures, &answer);
+        self.failures = count_failures(self.failures, &answer);
         answer
     }
 
@@ -275,7 +298,7 @@ impl<W: World, F: Files<W>, G: Gate> Files<W> for GatedFiles<F, G> {
         } else {
             Err(FilesFault::Device)
         };
-        self.failures = count(self.failures, &answer);
+        self.failures = count_failures(self.failures, &answer);
         answer
     }
 }

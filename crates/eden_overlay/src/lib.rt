@@ -13,17 +13,19 @@
 //! `Overlay::rescan` is for files whose state was lost: one pass over the live directories finds the next number, or
 //! why the files aren't sound.
 //!
-//! Strays, files that no live directory names as its own, may be left behind. Those of them that no live directory
-//! names at all are orphans: `Overlay::orphans` finds them, and `Overlay::remove_orphans` removes them, so that the
-//! same is shown.
+//! Strays, files that no live directory names as its own, may be left behind. Those of them that no directory names
+//! which counts, be it a live one or one whose saved numbers are still to be had, are orphans: `Overlay::orphans` finds
+//! them, and `Overlay::remove_orphans` removes them, so that the same is shown.
 #![tactic(auto)]
 
 mod content;
+mod entries;
 mod fault;
 mod files;
 mod folder;
 mod gate;
 mod laws;
+mod mark;
 mod memory;
 mod names;
 mod overlay;
@@ -35,13 +37,14 @@ mod tidy;
 mod unsynced;
 
 pub use content::Content;
+pub use entries::entries_of;
 pub use fault::GetFault;
-pub use files::{Files, FilesFault};
+pub use files::{Files, FilesFault, count_failures};
 pub use folder::{FolderFiles, LONGEST_FILE};
 pub use gate::{Allowance, FailingFiles, Gate, GatedFiles, OneCall, StopFiles};
 pub use laws::overlay_laws;
 pub use memory::MemoryFiles;
-pub use overlay::Overlay;
+pub use overlay::{Overlay, ROOT_NUMBER, STATE_NUMBER};
 pub use part::part_of;
 pub use rescan::RescanFault;
 pub use tidy::Removed;

@@ -4,22 +4,33 @@ ghost use Rattle.std.specs.Ordering.{nat_cmp};
 ghost use Rattle.std.specs.List.Sorted.{IsStrictlySortedBy};
 ghost use Rattle.eden_overlay_format.specs.Content.{IsHead};
 ghost use Rattle.eden_overlay.specs.Files.{IsHeadOf, Lists, part};
-ghost use Rattle.eden_overlay.specs.InMemory.{files_of, stored_in};
+ghost use Rattle.eden_overlay_format.specs.Stored.{written};
+ghost use Rattle.eden_overlay_format.specs.declared.header.Identifier.TheVariants as identifier;
+ghost use Rattle.eden_overlay.specs.InMemory.{bytes_in_memory, files_of, stored_in};
 
 use crate::files::{Files, FilesFault};
 use crate::part::part_of;
 use eden_model::World;
-use eden_overlay_format::{HEADER_LEN, Head};
+use eden_overlay_format::{HEADER_LEN, Head, Identifier, header_of};
 use std::alloc::{AllocError, Global};
 use std::collections::BTreeMap;
 use std::marker::{Model, PhantomData};
+
+/// A file in memory.
+#[derive(Drop)]
+enum FileBytes {
+    /// Its bytes.
+    Whole(Vec<u8>),
+    /// The body of a directory's. Its header is made where it is asked for: mostly the next change comes first.
+    Directory(Vec<u8>),
+}
 
 /// Files in memory. Their one error is want of memory.
 ///
 /// Contracts see the list of numbers and bytes, in rising order of the numbers.
 #[derive(Drop)]
 pub struct MemoryFiles<W: World> {
-    files: BTreeMap<u64, Vec<u8>>,
+    files: BTreeMap<u64, FileBytes>,
     world: PhantomData<W>,
 }
 
@@ -75,7 +86,7 @@ impl<W: World> Files<W> for MemoryFiles<W> {
 
     fn replace(&mut self, alloc: Global, number: u64, bytes: &[u8]) -> Result<(), FilesFault> {
         let bytes = Vec::from_slice(alloc, bytes)?;
-        self.files.insert(number, bytes)?;
+        self.files.insert(number, FileBytes::Whole(bytes))?;
         Ok(())
     }
 
@@ -87,7 +98,19 @@ impl<W: World> Files<W> for MemoryFiles<W> {
         behind: &[u8],
     ) -> Result<(), FilesFault> {
         let bytes = joined(alloc, front, behind)?;
-        self.files.insert(number, bytes)?;
+        self.files.insert(number, FileBytes::Whole(bytes))?;
+        Ok(())
+    }
+
+    fn replace_body(
+        &mut self,
+        alloc: Global,
+        number: u64,
+        identifier: Identifier,
+        body: &[u8],
+    ) -> Result<(), FilesFault> {
+        let file = kept(alloc, identifier, body)?;
+        self.files.insert(number, file)?;
         Ok(())
     }
 
@@ -116,40 +139,77 @@ fn joined(alloc: Global, front: &[u8], behind: &[u8]) -> Result<Vec<u8>, AllocEr
     Ok(bytes)
 }
 
-// A copy of the bytes, if there are any.
-fn copied(alloc: Global, bytes: Option<&Vec<u8>>) -> Result<Option<Vec<u8>>, AllocError>
-    ensures { IfOk result (λ o. option_map (λ v. v.items) o ≡ option_map (λ v. v.items) (option_copied bytes.entry)) }
+// The file with that body, as it is kept.
+fn kept(alloc: Global, identifier: Identifier, body: &[u8]) -> Result<FileBytes, AllocError>
+    ensures { IfOk result (λ file. bytes_in_memory file ≡ written identifier body.now) }
 {
-    match bytes {
+    match identifier {
+        Identifier::Directory => Ok(FileBytes::Directory(Vec::from_slice(alloc, body)?)),
+        Identifier::File | Identifier::Numbers => {
+            let header = header_of(identifier, body);
+            Ok(FileBytes::Whole(joined(alloc, &header, body)?))
+        }
+    }
+}
+
+// A copy of the file's bytes.
+fn whole(alloc: Global, kept: &FileBytes) -> Result<Vec<u8>, AllocError>
+    ensures { IfOk result (λ v. v.items ≡ bytes_in_memory kept.now) }
+{
+    match kept {
+        FileBytes::Whole(bytes) => Vec::from_slice(alloc, bytes.as_slice()),
+        FileBytes::Directory(body) => {
+            joined(alloc, &header_of(Identifier::Directory, body), body)
+        }
+    }
+}
+
+// A copy of the bytes, if there are any.
+fn copied(alloc: Global, kept: Option<&FileBytes>) -> Result<Option<Vec<u8>>, AllocError>
+    ensures { IfOk result (λ o. option_map (λ v. v.items) o ≡ option_map bytes_in_memory (option_copied kept.entry)) }
+{
+    match kept {
         None => Ok(None),
-        Some(bytes) => Ok(Some(Vec::from_slice(alloc, bytes.as_slice())?)),
+        Some(kept) => Ok(Some(whole(alloc, kept)?)),
     }
 }
 
 // A part of the bytes, if there are any.
 fn part_in(
     alloc: Global,
-    bytes: Option<&Vec<u8>>,
+    kept: Option<&FileBytes>,
     from: u64,
     most: u64,
 ) -> Result<Option<Vec<u8>>, AllocError>
     ensures part { IfOk result (λ o. option_map (λ v. v.items) o
-        ≡ option_map (part from most) (option_map (λ v. v.items) (option_copied bytes.entry))) }
+        ≡ option_map (part from most) (option_map bytes_in_memory (option_copied kept.entry))) }
     ensures bounded { IfOk result (λ o. IfSome o (λ v. length v.items ≤ most)) }
 {
-    match bytes {
+    match kept {
         None => Ok(None),
-        Some(bytes) => Ok(Some(part_of(alloc, bytes.as_slice(), from, most)?)),
+        Some(FileBytes::Whole(bytes)) => Ok(Some(part_of(alloc, bytes.as_slice(), from, most)?)),
+        Some(kept) => Ok(Some(part_of(alloc, &whole(alloc, kept)?, from, most)?)),
     }
 }
 
 // The head of the bytes, if there are any.
-fn head_in(bytes: Option<&Vec<u8>>) -> Option<Head>
-    ensures { IsHeadOf (option_map (λ v. v.items) (option_copied bytes.entry)) result }
+fn head_in(kept: Option<&FileBytes>) -> Option<Head>
+    ensures { IsHeadOf (option_map bytes_in_memory (option_copied kept.entry)) result }
 {
-    match bytes {
+    match kept {
         None => None,
-        Some(bytes) => Some(head_of(bytes.as_slice())),
+        Some(FileBytes::Whole(bytes)) => Some(head_of(bytes.as_slice())),
+        Some(FileBytes::Directory(body)) => Some(head_of_directory(body)),
+    }
+}
+
+// The head of the directory's file that has that body.
+fn head_of_directory(body: &[u8]) -> Head
+    ensures { IsHead result (written identifier.Directory body.now) }
+{
+    Head {
+        first: header_of(Identifier::Directory, body),
+        len: HEADER_LEN as u64 + body.len() as u64,
     }
 }
 
@@ -168,7 +228,7 @@ fn head_of(bytes: &[u8]) -> Head
 }
 
 // The numbers of the files.
-fn numbers(alloc: Global, files: &BTreeMap<u64, Vec<u8>>) -> Result<Vec<u64>, AllocError>
+fn numbers(alloc: Global, files: &BTreeMap<u64, FileBytes>) -> Result<Vec<u64>, AllocError>
     ensures rising { IfOk result (λ v. IsStrictlySortedBy nat_cmp v.items) }
     ensures all { IfOk result (λ v. Lists v.items (stored_in (files_of files.now.entries))) }
 {

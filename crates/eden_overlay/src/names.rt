@@ -2,12 +2,16 @@
 ghost use Rattle.std.specs.Prelude.{◌≡◌, ◌<◌, ◌≤◌, ◌+◌, ◌^◌, ◌++◌, ◌∷◌, [], if◌then◌else◌, ℕ, Some, IfOk, IfErr};
 ghost use Rattle.std.specs.Prelude.{IfSome, IsOk, OnOk, codes, decimal, length};
 ghost use Rattle.std.specs.Path.{path_buf_bytes, with_separator};
+ghost use Rattle.std.specs.Ordering.{nat_cmp};
+ghost use Rattle.std.specs.List.Sorted.{IsStrictlySortedBy};
 ghost use Rattle.eden_overlay.specs.InFolder as folder_spec;
 ghost use Rattle.eden_overlay.specs.declared.files.FilesFault.TheVariants as fault;
 
 use crate::files::FilesFault;
 use arrayvec::ArrayString;
 use itoa::Buffer;
+use std::alloc::{AllocError, Global};
+use std::collections::BTreeSet;
 use std::path::PathBuf;
 
 /// The system takes no longer path, in bytes.
@@ -22,12 +26,21 @@ pub(crate) fn file_path(folder: &PathBuf, number: u64) -> Result<FilePath, Files
     ensures fits { length (folder_spec.file_path (path_buf_bytes folder.now) number) ≤ LONGEST_PATH → IsOk result }
     ensures fault { IfErr result (λ f. f ≡ fault.Device) }
 {
+    path_of(folder, Buffer::new().format(number))
+}
+
+// Where what has that name lies; `Device` where that is longer than any path that the system takes.
+pub(crate) fn path_of(folder: &PathBuf, name: &str) -> Result<FilePath, FilesFault>
+    ensures ok { IfOk result (λ p. p.bytes ≡ with_separator (path_buf_bytes folder.now) ++ name.now) }
+    ensures fits { length (with_separator (path_buf_bytes folder.now) ++ name.now) ≤ LONGEST_PATH → IsOk result }
+    ensures fault { IfErr result (λ f. f ≡ fault.Device) }
+{
     let mut path = FilePath::new();
     append(&mut path, folder.as_str())?;
     if !ends_in_slash(folder.as_str()) {
         append(&mut path, "/")?;
     }
-    append(&mut path, Buffer::new().format(number))?;
+    append(&mut path, name)?;
     Ok(path)
 }
 
@@ -97,4 +110,12 @@ pub(crate) fn number_sought(name: &str, sought: Sought) -> Option<u64> {
         Sought::Files => number_named(name),
         Sought::Unfinished => unfinished_named(name),
     }
+}
+
+// The numbers, rising.
+pub(crate) fn rising(alloc: Global, numbers: &BTreeSet<u64>) -> Result<Vec<u64>, AllocError>
+    ensures items { IfOk result (λ v. v.items ≡ numbers.now.keys) }
+    ensures rising { IfOk result (λ v. IsStrictlySortedBy nat_cmp v.items) }
+{
+    numbers.iter().copied().collect(alloc)
 }

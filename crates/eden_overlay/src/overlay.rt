@@ -32,18 +32,18 @@ use crate::recent::Recent;
 use crate::room::Room;
 use eden_model::{Id, World};
 use eden_overlay_format::{
-    DecodeFault, HEADER_LEN, Head, Listing, Refusal, Spliced, State, StoredEntry, content_len,
-    decode_dir, decode_numbers, decode_state, encode_file_in, encode_state, file_header,
+    DecodeFault, HEADER_LEN, Head, Identifier, Listing, Refusal, Spliced, State, StoredEntry,
+    content_len, decode_dir, decode_numbers, decode_state, encode_state, encode_unsealed_in,
     has_numbers,
 };
 use std::alloc::{AllocError, Global};
 use std::marker::{Model, PhantomData};
 
 /// The number of the state's file.
-const STATE_NUMBER: u64 = 0;
+pub const STATE_NUMBER: u64 = 0;
 
 /// The number of the root's file.
-pub(crate) const ROOT_NUMBER: u64 = 1;
+pub const ROOT_NUMBER: u64 = 1;
 
 /// A content of more bytes, 8 MiB, is stored without a copy where it is lent in one piece.
 const LONG: usize = 8 << 20;
@@ -134,14 +134,12 @@ impl<W: World, F: Files<W>> Overlay<W, F> {
         }
         // First, so that memory never holds what is kept of the file beside the new one.
         let room = self.recent.room(alloc, number);
-        let bytes = encode_file_in(room, content)?;
-        match self.files.replace(alloc, number, &bytes) {
-            Err(fault) => Err(fault),
-            Ok(()) => {
-                let _kept = self.recent.keep(number, Content::of_encoded(bytes));
-                Ok(())
-            }
-        }
+        let stored = Content::of_unsealed(encode_unsealed_in(room, content)?);
+        let body = stored.as_slice();
+        self.files
+            .replace_body(alloc, number, Identifier::File, body)?;
+        let _kept = self.recent.keep(number, stored);
+        Ok(())
     }
 
     /// Stores a content in one piece, of which no copy is made: so it isn't kept in memory.
@@ -154,8 +152,8 @@ impl<W: World, F: Files<W>> Overlay<W, F> {
         ensures counted { Counted (result ≡ Err files.Device) (F.failures self.old) (F.failures self.new) }
     {
         self.recent.forget(number);
-        let header = file_header(content);
-        self.files.replace_joined(alloc, number, &header, content)?;
+        self.files
+            .replace_body(alloc, number, Identifier::File, content)?;
         self.recent.note_whole(number);
         Ok(())
     }
@@ -200,9 +198,12 @@ impl<W: World, F: Files<W>> Overlay<W, F> {
         ensures counted { Counted (result ≡ Err files.Device) (F.failures self.old) (F.failures self.new) }
     {
         self.recent.forget(number);
-        let bytes = listing.into_file();
-        let answer = self.files.replace(alloc, number, &bytes);
-        self.room.keep(bytes);
+        let file = listing.into_unsealed();
+        let (_, body) = file.split_at(HEADER_LEN);
+        let answer = self
+            .files
+            .replace_body(alloc, number, Identifier::Directory, body);
+        self.room.keep(file);
         answer
     }
 
@@ -299,7 +300,7 @@ impl<W: World, F: Files<W>> Overlay<W, F> {
 
     /// The length of the content of the file of that number, or why it tells none: by its first 64 bytes and its
     /// length. The content isn't read: that it has another digest than its header says is told by `get_file`. The files
-    /// aren't asked where the content is kept. It takes no memory.
+    /// aren't asked where the content is kept. Want of memory is never told.
     pub fn get_len(&mut self, number: u64) -> Result<u64, GetFault>
         ensures told { W.honest → IfOk result (TellsLength (F.stored self.old) number) }
         ensures refused { W.honest → IfErr result (ExplainsLength (F.stored self.old number)) }
@@ -337,7 +338,7 @@ impl<W: World, F: Files<W>> Overlay<W, F> {
     }
 
     /// Whether the root is the mount's own: file 1 is stored, and doesn't have the numbers of a tree object's directory
-    /// alone. Its first 64 bytes are read. It takes no memory: its one error is the device's.
+    /// alone. Its first 64 bytes are read. Its one error is the device's.
     pub fn is_rooted(&mut self) -> Result<bool, FilesFault>
         ensures told { W.honest → IfOk result (λ b. b ≡ is_some (root_file (F.stored self.old))) }
         ensures fault { IfErr result (λ f. f ≡ files.Device) }
@@ -477,8 +478,7 @@ impl<W: World, F: Files<W>> Overlay<W, F> {
         self.files.sync(alloc)
     }
 
-    /// How many bytes the file of that number has; 0 where there is none. It takes no memory: its one error is the
-    /// device's.
+    /// How many bytes the file of that number has; 0 where there is none. Its one error is the device's.
     pub fn bytes_at(&mut self, number: u64) -> Result<u64, FilesFault>
         ensures told { W.honest → IfOk result (λ bytes. bytes ≡ bytes_at (F.stored self.old number)) }
         ensures fault { IfErr result (λ f. f ≡ files.Device) }

@@ -1,15 +1,35 @@
 // What of a folder the disk may not have yet.
 use crate::files::FilesFault;
-use crate::names::file_path;
+use crate::mark::{self, StateFile};
+use crate::names::{file_path, rising};
 use eden_plain_files::{Durability, FolderFault, sync_file, sync_names};
+use std::alloc::Global;
+use std::collections::BTreeSet;
 use std::path::PathBuf;
 use std::rt;
 
-/// What was done in a folder since the disk last had all of it.
+/// So many files of a run are kept in mind. With more, any file may lack its bytes.
+const MOST_KEPT: usize = 1 << 17;
+
+/// Which files may lack their bytes from before this run.
 #[derive(Clone, Copy)]
+enum Earlier {
+    /// Any.
+    Any,
+    /// Those that the mark beside that state names.
+    Marked(StateFile),
+    /// None.
+    None,
+}
+
+/// What was done in a folder since the disk last had all of it.
+#[derive(Drop)]
 pub(crate) struct Unsynced {
-    /// Whether any file may lack its bytes: an earlier run, or this one before somebody asked for the disk, stored it.
-    pub(crate) has_files: bool,
+    earlier: Earlier,
+    /// Whether this run took away the mark that earlier ones left.
+    is_unmarked: bool,
+    /// The files that this run stored before somebody asked for the disk.
+    stored: Option<BTreeSet<u64>>,
     /// Whether a name came or went.
     has_names: bool,
     /// Whether the disk may never get something.
@@ -22,22 +42,44 @@ impl Unsynced {
     /// Nothing is known of what earlier runs stored.
     pub(crate) fn anything() -> Unsynced {
         Unsynced {
-            has_files: true,
+            earlier: Earlier::Any,
+            is_unmarked: false,
+            stored: None,
             has_names: true,
             is_lost: false,
             is_promised: false,
         }
     }
 
-    /// A file is being stored. Once somebody asked for the disk it has its bytes there before its name: it may be a
-    /// directory's, whose other entries were waited for.
-    pub(crate) fn replaces(&mut self) -> Durability {
+    /// Whether a mark may count that says nothing of what this run stores, and mustn't: the state beside which it was
+    /// left is still there.
+    pub(crate) fn has_old_mark(&self) -> bool {
+        !self.is_promised && !self.is_unmarked && matches!(self.earlier, Earlier::Any)
+    }
+
+    /// There is no mark any more.
+    pub(crate) fn unmarks(&mut self) {
+        self.is_unmarked = true;
+    }
+
+    /// The file of that number is being stored. Once somebody asked for the disk it has its bytes there before its
+    /// name: it may be a directory's, whose other entries were waited for.
+    pub(crate) fn replaces(&mut self, alloc: Global, number: u64) -> Durability {
         self.has_names = true;
         if self.is_promised {
-            Durability::Synced
-        } else {
-            Durability::Written
+            return Durability::Synced;
         }
+        if !self.keeps(alloc, number) {
+            self.stored = None;
+            self.earlier = Earlier::Any;
+        }
+        Durability::Written
+    }
+
+    // Whether the number is kept in mind from now on.
+    fn keeps(&mut self, alloc: Global, number: u64) -> bool {
+        let stored = self.stored.get_or_insert_with(|| BTreeSet::new(alloc));
+        stored.len() < MOST_KEPT && stored.insert(number).is_ok()
     }
 
     /// A file is being removed.
@@ -45,9 +87,65 @@ impl Unsynced {
         self.has_names = true;
     }
 
+    /// That state is being removed, beside which the last run may have left a mark.
+    pub(crate) fn opens(&mut self, state: StateFile) {
+        if let Earlier::Any = self.earlier {
+            self.earlier = Earlier::Marked(state);
+        }
+    }
+
+    /// There was no file yet.
+    pub(crate) fn begins(&mut self) {
+        self.earlier = Earlier::None;
+    }
+
     /// From now on stores wait for the disk.
     pub(crate) fn promise(&mut self) {
         self.is_promised = true;
+    }
+}
+
+/// The numbers of the files that may lack their bytes, rising; None where any may.
+pub(crate) fn lacking<R: rt::Files>(
+    files: &R,
+    alloc: Global,
+    folder: &PathBuf,
+    unsynced: &Unsynced,
+) -> Result<Option<Vec<u64>>, FilesFault> {
+    let mut numbers = BTreeSet::new(alloc);
+    match unsynced.earlier {
+        Earlier::Any => return Ok(None),
+        Earlier::Marked(state) => match mark::read(files, alloc, folder, state)? {
+            Some(marked) => {
+                for number in marked.iter() {
+                    numbers.insert(*number)?;
+                }
+            }
+            None => return Ok(None),
+        },
+        Earlier::None => {}
+    }
+    if let Some(stored) = &unsynced.stored {
+        for number in stored.iter() {
+            numbers.insert(*number)?;
+        }
+    }
+    Ok(Some(rising(alloc, &numbers)?))
+}
+
+/// The numbers for a mark, by which the next run knows what the disk may lack; None where that can't be told.
+pub(crate) fn to_mark<R: rt::Files>(
+    files: &R,
+    alloc: Global,
+    folder: &PathBuf,
+    unsynced: &Unsynced,
+) -> Option<Vec<u64>> {
+    if unsynced.is_lost {
+        return None;
+    }
+    match lacking(files, alloc, folder, unsynced) {
+        Ok(numbers) => numbers,
+        Err(_) => None,
     }
 }
 
@@ -63,7 +161,8 @@ pub(crate) fn sync_all<R: rt::Files>(
         && has_files(files, folder, numbers)?
         && (!unsynced.has_names || sync_names(files, folder.as_str())?);
     if has_all {
-        unsynced.has_files = false;
+        unsynced.earlier = Earlier::None;
+        unsynced.stored = None;
         unsynced.has_names = false;
         Ok(())
     } else {

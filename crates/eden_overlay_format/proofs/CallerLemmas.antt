@@ -14,11 +14,11 @@ use Rattle.eden_overlay_format.specs.Directory.{AreStorable, directory_body}
 use Rattle.eden_overlay_format.specs.Numbers.{none_is_own, numbers_body, has_numbers, IsNumbers}
 use Rattle.eden_overlay_format.specs.State.{IsGoodState, state_body}
 use Rattle.eden_overlay_format.specs.Values.{content_in, state_in, entries_in, numbers_in}
-use Rattle.eden_overlay_format.proofs.Headers.{identified, behind, one_identifier}
+use Rattle.eden_overlay_format.proofs.Headers.{identified, one_identifier}
 use Rattle.eden_overlay_format.proofs.Found.{contents_found, states_found, entries_found}
 use Rattle.eden_overlay_format.proofs.NumbersFound.{numbers_found}
--- a written file holds its body, and one of another identifier no numbers
-pub use Rattle.eden_overlay_format.proofs.Headers.{written_found}
+-- a written file holds its body, which stands behind its header, and one of another identifier no numbers
+pub use Rattle.eden_overlay_format.proofs.Headers.{behind, written_found}
 pub use Rattle.eden_overlay_format.proofs.NumbersFound.{other_has_none}
 -- what a head tells of a content's length, and of numbers
 pub use Rattle.eden_overlay_format.proofs.Lengths.{lengths_told, lengths_none, head_says}

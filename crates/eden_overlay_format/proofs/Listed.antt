@@ -58,18 +58,14 @@ module _ (count : ℕ) (file filled : List ℕ) (u : IsUnderWay count file) (cou
   entries = entries_under_way count file
 
   -- the count is written in its room
-  body : filled ≡ replicate 64 0 ++ directory_body entries
+  pub body : filled ≡ replicate 64 0 ++ directory_body entries
   body =
       let behind : drop 68 file ≡ flat_map row u.entries = ap (drop 68) u.rows ∙ drop_at (replicate 68 0) (flat_map row u.entries) 68 refl in
       counted ∙ ap (λ (n : ℕ). replicate 64 0 ++ to_be_bytes w32 n ++ drop 68 file) (sym u.counted)
       ∙ ap (λ (rows : List ℕ). replicate 64 0 ++ to_be_bytes w32 (length u.entries) ++ rows) behind
       ∙ ap (λ (es : List StoredEntry). replicate 64 0 ++ directory_body es) (sym (seen count file u))
 
-  -- and then the header
-  pub finished : (new : List ℕ) → new ≡ written identifier.Directory (drop 64 filled) → new ≡ written identifier.Directory (directory_body entries)
-  finished new header = sealed identifier.Directory filled (directory_body entries) new body header
-
-  -- .. or the id before it
+  -- and then the id before it, and the header
   pub numbered : (tree : Id) (longer new : List ℕ) → longer ≡ take 64 filled ++ tree.bytes ++ drop 64 filled → new ≡ written identifier.Numbers (drop 64 longer)
       → new ≡ written identifier.Numbers (numbers_body tree entries)
   numbered tree longer new inserted header =

@@ -1,12 +1,13 @@
 //! The content of a file or a link.
 
-ghost use Rattle.std.specs.Prelude.{◌≡◌, ◌≤◌, ◌<◌, ◌+◌, ◌++◌, Some, length, IfOk, IfErr, OnErr, vec_capacity};
+ghost use Rattle.std.specs.Prelude.{◌≡◌, ◌≤◌, ◌<◌, ◌+◌, ◌++◌, Some, IfOk, IfErr, OnErr, length, replicate};
+ghost use Rattle.std.specs.Prelude.{vec_capacity};
 ghost use Rattle.eden_overlay_format.specs.Stored.{Refuses, written};
 ghost use Rattle.eden_overlay_format.specs.Content.{content_length, content_most, IsFile};
 ghost use Rattle.eden_overlay_format.specs.Values.{content_in};
 ghost use Rattle.eden_overlay_format.specs.declared.header.Identifier.TheVariants as identifier;
 
-use crate::header::{HEADER_LEN, Head, Identifier, body_of, check_head, header_of, seal, start};
+use crate::header::{HEADER_LEN, Head, Identifier, body_of, check_head, seal, start};
 use crate::refusal::Refusal;
 use crate::spliced::Spliced;
 use std::alloc::{AllocError, Global};
@@ -20,28 +21,21 @@ pub fn encode_file(alloc: Global, content: &[u8]) -> Result<Vec<u8>, AllocError>
     ensures bytes { IfOk result (λ v. v.items ≡ written identifier.File content.now) }
     ensures read_again { IfOk result (λ v. IsFile v.items content.now) }
 {
-    encode_file_in(Vec::new(alloc), Spliced::whole(content))
-}
-
-/// The stored file of a content of at most `CONTENT_MOST` bytes, in that room, whose bytes go. The only error is want
-/// of memory, where the room is too small.
-pub fn encode_file_in(room: Vec<u8>, content: Spliced<'_>) -> Result<Vec<u8>, AllocError>
-    requires { length content ≤ content_most }
-    ensures bytes { IfOk result (λ v. v.items ≡ written identifier.File content.entry) }
-    ensures read_again { IfOk result (λ v. IsFile v.items content.entry) }
-    ensures full { OnErr result (vec_capacity room < 64 + length content.entry) }
-{
-    let mut out = start(room, content.len())?;
-    content.append_to(&mut out)?;
+    let mut out = encode_unsealed_in(Vec::new(alloc), Spliced::whole(content))?;
     seal(Identifier::File, &mut out);
     Ok(out)
 }
 
-/// The header of the stored file of that content, which stands behind it there.
-pub fn file_header(content: &[u8]) -> [u8; HEADER_LEN]
-    ensures { result ++ content.now ≡ written identifier.File content.now }
+/// A content of at most `CONTENT_MOST` bytes behind room for the header of its stored file, in that room, whose bytes
+/// go. The only error is want of memory, where the room is too small.
+pub fn encode_unsealed_in(room: Vec<u8>, content: Spliced<'_>) -> Result<Vec<u8>, AllocError>
+    requires { length content ≤ content_most }
+    ensures bytes { IfOk result (λ v. v.items ≡ replicate 64 0 ++ content.entry) }
+    ensures full { OnErr result (vec_capacity room < 64 + length content.entry) }
 {
-    header_of(Identifier::File, content)
+    let mut out = start(room, content.len())?;
+    content.append_to(&mut out)?;
+    Ok(out)
 }
 
 /// The content that the bytes store, lent out of them, or the first refusal.

@@ -127,9 +127,9 @@ pub(crate) fn start(room: Vec<u8>, body_len: usize) -> Result<Vec<u8>, AllocErro
     Ok(out)
 }
 
-/// The header of a file with that body.
+/// The header of the stored file with that body, which stands before it there.
 #[tactic(auto, unfolding(crate::specs::Stored::header))]
-pub(crate) fn header_of(identifier: Identifier, body: &[u8]) -> [u8; HEADER_LEN]
+pub fn header_of(identifier: Identifier, body: &[u8]) -> [u8; HEADER_LEN]
     ensures { result ≡ header identifier body.now }
 {
     let mut header = [0; HEADER_LEN];

@@ -19,11 +19,9 @@ mod state;
 mod stored_entry;
 mod writing;
 
-pub use content::{
-    CONTENT_MOST, content_len, decode_file, encode_file, encode_file_in, file_header,
-};
+pub use content::{CONTENT_MOST, content_len, decode_file, encode_file, encode_unsealed_in};
 pub use directory::{decode_dir, encode_dir, is_rising};
-pub use header::{HEADER_LEN, Head, Identifier};
+pub use header::{HEADER_LEN, Head, Identifier, header_of};
 pub use laws::format_laws;
 pub use listing::Listing;
 pub use numbers::{StoredNumbers, decode_numbers, encode_numbers, has_numbers};

@@ -90,12 +90,20 @@ impl Listing {
         })
     }
 
+    /// The body of a directory with these entries, behind room for the header of its stored file.
+    pub fn into_unsealed(self) -> Vec<u8>
+        ensures { result.items ≡ replicate 64 0 ++ directory_body self }
+    {
+        let Listing { mut file, count } = self;
+        put_count(&mut file, count);
+        file
+    }
+
     /// The stored file of a directory with these entries.
     pub fn into_file(self) -> Vec<u8>
         ensures { result.items ≡ written identifier.Directory (directory_body self) }
     {
-        let Listing { mut file, count } = self;
-        put_count(&mut file, count);
+        let mut file = self.into_unsealed();
         seal(Identifier::Directory, &mut file);
         file
     }

@@ -68,14 +68,17 @@ impl<'a> Spliced<'a> {
         }
     }
 
-    /// The content, where it is one piece.
+    /// The content, where no zeros are in it and one piece at most has bytes, which isn't the last.
     pub fn as_slice(&self) -> Option<&[u8]>
         ensures { IfSome result (λ content. content.now ≡ self.now) }
     {
-        if self.before.is_empty() && self.zeros == 0 && self.after.is_empty() {
-            return Some(self.put);
+        if self.zeros > 0 || !self.after.is_empty() {
+            return None;
         }
-        None
+        if self.put.is_empty() {
+            return Some(self.before);
+        }
+        self.before.is_empty().then_some(self.put)
     }
 
     /// The content's length in bytes.

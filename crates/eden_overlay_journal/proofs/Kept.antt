@@ -1,16 +1,16 @@
 -- A journal in memory, as a map keeps it.
-use Rattle.std.proofs.Common.{◌≡◌, ◌∙◌, ℕ, ◌==◌, List, Bool, true, false, cond, Option, Some, None, IsSome, refl, ap, sym, arith}
+use Rattle.std.proofs.Common.{◌≡◌, ◌∙◌, ℕ, ◌==◌, Bool, true, false, cond, Option, Some, None, IsSome, refl, ap, sym, arith}
 use Rattle.std.proofs.Math.Path.{fun_ext}
 use Rattle.std.specs.Bool.{Decides}
 use Rattle.std.specs.Option.{is_some}
 use Rattle.std.specs.Ordering.{nat_cmp, eq_by_cmp}
 use Rattle.std.specs.Set.{is_member}
-use Rattle.std.specs.BTreeMap.{BTreeMap, is_at, get, keys, Updates, IsEmpty}
+use Rattle.std.specs.BTreeMap.{BTreeMap, is_at, get, keys, Updates}
 use Rattle.std.specs.declared.alloc.Global.{Global}
 use Rattle.std.specs.declared.vec.Vec.{Vec}
 use Rattle.std.proofs.lemmas.Bool.Decides.{nat_tests, Decides-eqb}
 use Rattle.std.proofs.lemmas.Map.Made.{is_member-Decides}
-use Rattle.eden_overlay_journal.specs.Changes.{ListsChanges, change_of, changes_in, noted, unchanged}
+use Rattle.eden_overlay_journal.specs.Changes.{ListsChanges, change_of, changes_in, noted}
 
 is_at-nat_cmp : (k q : ℕ) → is_at (nat_cmp k) q ≡ (k == q)
 is_at-nat_cmp k q = grind (arith, nat_tests)

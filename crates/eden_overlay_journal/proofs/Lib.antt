@@ -1,3 +1,7 @@
+mod Alike
+mod Between
+mod FieldsRead
+mod PartRead
 mod Over
 mod Poured
 mod Kept

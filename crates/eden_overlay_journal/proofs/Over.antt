@@ -1,5 +1,5 @@
 -- What a journal says of a file, done to it.
-use Rattle.std.proofs.Common.{◌≡◌, ◌≢◌, ◌⊎◌, ◌∙◌, ℕ, List, Option, Some, None, refl, ap, inl, inr}
+use Rattle.std.proofs.Common.{◌≡◌, ◌∙◌, ℕ, List, Option, Some, None, refl, ap, inl, inr}
 use Rattle.std.proofs.Math.Path.{fun_ext}
 use Rattle.eden_overlay.specs.Files.{Stored, put}
 use Rattle.eden_overlay.proofs.CallerLemmas.{put_here, put_apart, same_or_apart}

@@ -1,5 +1,5 @@
 -- All that a journal says, done to the files.
-use Rattle.std.proofs.Common.{◌≡◌, ◌≢◌, ◌⊎◌, ◌∙◌, ℕ, List, Option, Some, None, IsSome, Result, Ok, Err, OnOk, OnErr, All, refl, ap, sym, subst, inl, inr}
+use Rattle.std.proofs.Common.{◌≡◌, ◌⊎◌, ◌∙◌, ℕ, List, Option, Some, None, IsSome, Result, Ok, Err, OnOk, OnErr, All, refl, ap, sym, inl, inr}
 use Rattle.std.proofs.Math.Path.{fun_ext}
 use Rattle.std.proofs.lemmas.List.Elements.{All-contains}
 use Rattle.eden_overlay_format.specs.declared.header.Head.{Head}

@@ -1,5 +1,5 @@
 -- What a journal says of files by their numbers, and what they are with that over them.
-use Rattle.std.specs.Prelude.{◌≡◌, ℕ, ◌==◌, List, Option, Some, None, if◌then◌else◌, option_map, IsSome, Contains}
+use Rattle.std.specs.Prelude.{ℕ, ◌==◌, List, Option, Some, None, if◌then◌else◌, option_map, IsSome, Contains}
 use Rattle.std.specs.Ordering.{nat_cmp}
 use Rattle.std.specs.BTreeMap.{BTreeMap, get}
 use Rattle.std.specs.declared.alloc.Global.{Global}

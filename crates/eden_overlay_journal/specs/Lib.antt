@@ -1,3 +1,4 @@
 pub mod Changes
+pub mod New
 pub mod Pouring
 pub mod Records

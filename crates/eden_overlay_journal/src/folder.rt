@@ -1,15 +1,19 @@
+ghost use Rattle.std.specs.Prelude.{◌≤◌, ◌^◌};
+
+use crate::bodies::Bodies;
+use crate::change::{Change, PARTS_LEN};
 use crate::dates::{date, now};
 use crate::journal::Journal;
 use crate::log::Log;
-use crate::pouring::STATE_NUMBER;
+use crate::new_file::{LONGEST_DIRECTORY, LONGEST_RECORD};
+use crate::part::PART_LEN;
 use crate::record::{FRONT_LEN, Fields, Note, fields_in, is_whole, short_record, write_record};
-use crate::seen::LONGEST_RECORD;
 use eden_model::Outside;
-use eden_overlay::FilesFault;
-use eden_overlay_format::{HEADER_LEN, Head};
+use eden_overlay::{FilesFault, STATE_NUMBER};
+use eden_overlay_format::{HEADER_LEN, Head, Identifier, header_of};
 use eden_plain_files::{FolderFault, sync_names};
 use itoa::Buffer;
-use std::alloc::Global;
+use std::alloc::{AllocError, Global};
 use std::collections::BTreeMap;
 use std::path::PathBuf;
 use std::rt::{Clock, Files};
@@ -17,12 +21,31 @@ use std::rt::{Clock, Files};
 /// A journal with more bytes is full, and one that could not be emptied once it has so many more.
 const FULL: u64 = 16 << 20;
 
-/// Where a file's bytes lie in the journal, and when that was noted.
+/// So many records tell a body at most: the first all of it, and each later one what has changed.
+const MOST_RECORDS: u16 = 256;
+
+/// A body that is shorter is noted whole, in bytes.
+const LEAST_CHANGED: usize = 1 << 10;
+
+/// What the record of a file tells.
+#[derive(Clone, Copy)]
+enum Told {
+    /// Its bytes.
+    File,
+    /// The body of a directory, which is that long; so many records tell it.
+    Body { len: usize, records: u16 },
+}
+
+/// The record of a file that is stored.
 #[derive(Clone, Copy)]
 struct Piece {
-    start: u64,
+    /// Where it begins in the journal.
+    at: u64,
+    /// How many bytes stand behind its fields.
     len: usize,
+    /// When it was noted.
     when: u64,
+    told: Told,
 }
 
 /// A journal that is the file `journal` in an overlay's folder. It is made when something is noted first, and removed
@@ -34,8 +57,12 @@ pub struct FolderJournal<R: Files> {
     alloc: Global,
     /// What is said of each number; without a piece that it was removed.
     pieces: BTreeMap<u64, Option<Piece>>,
+    /// The bodies that were noted last.
+    bodies: Bodies,
     /// For the next record.
     room: Vec<u8>,
+    /// For a body between two, and what stands before a record's new rows.
+    spare: Vec<u8>,
     /// With more bytes it is full.
     full_at: u64,
 }
@@ -52,7 +79,9 @@ impl<R: Files + Clock + Drop> FolderJournal<R> {
             folder: folder.clone()?,
             alloc,
             pieces: BTreeMap::new(alloc),
+            bodies: Bodies::new(alloc),
             room: Vec::new(alloc),
+            spare: Vec::new(alloc),
             full_at: FULL,
         };
         for _ in 0..u64::MAX {
@@ -82,37 +111,74 @@ impl<R: Files + Clock + Drop> FolderJournal<R> {
 
     // Whether the record with these fields is whole, which is learned then.
     fn take_whole(&mut self, front: &[u8; FRONT_LEN], fields: Fields) -> Result<bool, FilesFault> {
-        if fields.number == STATE_NUMBER || fields.len > LONGEST_RECORD as u64 {
+        if fields.number == STATE_NUMBER || fields.len > most_behind(fields.note) {
             return Ok(false);
         }
+        let at = self.log.end();
         self.room.clear();
         self.room.extend_from_slice(front)?;
         self.room.resize(FRONT_LEN + fields.len as usize, 0)?;
-        let start = self.log.end().saturating_add(FRONT_LEN as u64);
+        let start = at.saturating_add(FRONT_LEN as u64);
         self.log.read(start, &mut self.room[FRONT_LEN..])?;
         if !is_whole(&self.room) {
             return Ok(false);
         }
-        self.learn(fields, start)?;
-        self.log.go_on(FRONT_LEN as u64 + fields.len);
-        Ok(true)
+        match self.said_by(fields, at) {
+            None => Ok(false),
+            Some(said) => {
+                self.learn(fields.number, said)?;
+                self.log.go_on(FRONT_LEN as u64 + fields.len);
+                Ok(true)
+            }
+        }
     }
 
-    fn learn(&mut self, fields: Fields, start: u64) -> Result<(), FilesFault> {
-        match fields.note {
-            Note::Stored => {
-                let piece = Piece {
-                    start,
-                    len: fields.len as usize,
-                    when: fields.when,
-                };
-                self.pieces.insert(fields.number, Some(piece))?;
+    // What the record with these fields says of its file; it begins there and lies in the room. None where it is a part
+    // that doesn't fit what was said before.
+    fn said_by(&self, fields: Fields, at: u64) -> Option<Option<Option<Piece>>> {
+        let told = match fields.note {
+            Note::Removed => return Some(Some(None)),
+            Note::Elsewhere => return Some(None),
+            Note::Stored => Told::File,
+            Note::Directory => Told::Body {
+                len: fields.len as usize,
+                records: 1,
+            },
+            Note::Part | Note::Parts => self.told_by_change(fields)?,
+        };
+        Some(Some(Some(Piece {
+            at,
+            len: fields.len as usize,
+            when: fields.when,
+            told,
+        })))
+    }
+
+    // The body that the change in the room tells, of a record with these fields.
+    fn told_by_change(&self, fields: Fields) -> Option<Told> {
+        let (_, behind) = self.room.split_first_chunk::<FRONT_LEN>()?;
+        let change = Change::read(fields.note, behind)?;
+        let Piece { at, told, .. } = self.pieces.get(&fields.number).copied()??;
+        match told {
+            Told::Body { len, records } if records < MOST_RECORDS && at == change.before() => {
+                let len = change.len_of(len)?;
+                (len <= LONGEST_DIRECTORY).then_some(Told::Body {
+                    len,
+                    records: records + 1,
+                })
             }
-            Note::Removed => {
-                self.pieces.insert(fields.number, None)?;
+            _ => None,
+        }
+    }
+
+    // Says that of the number.
+    fn learn(&mut self, number: u64, said: Option<Option<Piece>>) -> Result<(), FilesFault> {
+        match said {
+            Some(piece) => {
+                self.pieces.insert(number, piece)?;
             }
-            Note::Elsewhere => {
-                self.pieces.remove(&fields.number);
+            None => {
+                self.pieces.remove(&number);
             }
         }
         Ok(())
@@ -137,23 +203,184 @@ impl<R: Files + Clock + Drop> FolderJournal<R> {
         date(self.log.files(), &path, when)
     }
 
-    fn bytes_of(&mut self, alloc: Global, piece: Piece) -> Result<Vec<u8>, FilesFault> {
+    // The bytes of the file of that number, which the record tells.
+    fn bytes_of(
+        &mut self,
+        alloc: Global,
+        number: u64,
+        piece: Piece,
+    ) -> Result<Vec<u8>, FilesFault> {
         let mut bytes = Vec::new(alloc);
-        bytes.resize(piece.len, 0)?;
-        self.log.read(piece.start, bytes.as_mut_slice())?;
+        match piece.told {
+            Told::File => {
+                bytes.resize(piece.len, 0)?;
+                let start = piece.at.saturating_add(FRONT_LEN as u64);
+                self.log.read(start, bytes.as_mut_slice())?;
+            }
+            Told::Body { records, .. } => {
+                let body = self.body_of(alloc, number, piece.at, records)?;
+                bytes.extend_from_slice(&header_of(Identifier::Directory, &body))?;
+                bytes.extend_from_slice(&body)?;
+            }
+        }
         Ok(bytes)
     }
 
-    fn head_of(&mut self, piece: Piece) -> Result<Head, FolderFault> {
-        let mut first = [0; HEADER_LEN];
-        if piece.len >= HEADER_LEN {
-            self.log.read(piece.start, &mut first)?;
+    // The body that so many records tell, of which the last begins there.
+    fn body_of(
+        &mut self,
+        alloc: Global,
+        number: u64,
+        at: u64,
+        records: u16,
+    ) -> Result<Vec<u8>, FilesFault> {
+        if let Some(body) = self.bodies.get(number) {
+            return Ok(Vec::from_slice(alloc, body)?);
         }
-        Ok(Head {
-            first,
-            len: piece.len as u64,
-        })
+        let (mut changes, mut first) = (Vec::new(alloc), at);
+        for _ in 1..records {
+            changes.push(first)?;
+            first = self.before_change(first)?;
+        }
+        let (mut body, mut next) = (Vec::new(alloc), Vec::new(alloc));
+        if read_behind(&mut self.log, first, &mut body)? != Note::Directory {
+            return Err(FilesFault::Device);
+        }
+        for _ in 1..records {
+            let Some(at) = changes.pop() else {
+                break;
+            };
+            let note = read_behind(&mut self.log, at, &mut self.room)?;
+            let change = Change::read(note, &self.room).ok_or(FilesFault::Device)?;
+            if !change.make(&mut body, &mut next)? {
+                return Err(FilesFault::Device);
+            }
+        }
+        Ok(body)
     }
+
+    // Where the record begins that told the body before the change there.
+    fn before_change(&mut self, at: u64) -> Result<u64, FilesFault> {
+        let note = read_behind(&mut self.log, at, &mut self.room)?;
+        match Change::read(note, &self.room) {
+            Some(change) => Ok(change.before()),
+            None => Err(FilesFault::Device),
+        }
+    }
+
+    fn head_of(&mut self, number: u64, piece: Piece) -> Result<Head, FilesFault> {
+        let mut first = [0; HEADER_LEN];
+        match piece.told {
+            Told::File => {
+                if piece.len >= HEADER_LEN {
+                    let start = piece.at.saturating_add(FRONT_LEN as u64);
+                    self.log.read(start, &mut first)?;
+                }
+                Ok(Head {
+                    first,
+                    len: piece.len as u64,
+                })
+            }
+            Told::Body { records, .. } => {
+                let body = self.body_of(self.alloc, number, piece.at, records)?;
+                Ok(Head {
+                    first: header_of(Identifier::Directory, &body),
+                    len: HEADER_LEN as u64 + body.len() as u64,
+                })
+            }
+        }
+    }
+
+    // Writes the record of that body into the room: what has changed in it, where that is little. What it tells then.
+    fn write_body(&mut self, number: u64, when: u64, body: &[u8]) -> Result<Told, FilesFault> {
+        let len = body.len();
+        if let Some((change, records)) = self.change_for(number, body)? {
+            change.write_record(&mut self.room, &mut self.spare, number, when)?;
+            return Ok(Told::Body { len, records });
+        }
+        write_record(&mut self.room, Note::Directory, number, when, &[], body)?;
+        Ok(Told::Body { len, records: 1 })
+    }
+
+    // What has changed in the body of that number, if it is kept as it was noted and little has; and how many records
+    // tell it with that.
+    fn change_for<'a>(
+        &mut self,
+        number: u64,
+        body: &'a [u8],
+    ) -> Result<Option<(Change<'a>, u16)>, AllocError> {
+        let Some(Some(Piece { at, told, .. })) = self.pieces.get(&number).copied() else {
+            return Ok(None);
+        };
+        let (Some(old), Told::Body { records, .. }) = (self.bodies.get(number), told) else {
+            return Ok(None);
+        };
+        if records >= MOST_RECORDS || body.len() < LEAST_CHANGED {
+            return Ok(None);
+        }
+        match Change::between(at, old, body, &mut self.spare)? {
+            Some(change) => Ok(Some((change, records + 1))),
+            None => Ok(None),
+        }
+    }
+
+    // Notes the record in the room, which tells that of the file.
+    fn put_record(&mut self, number: u64, when: u64, told: Told) -> Result<(), FilesFault> {
+        let piece = Piece {
+            at: self.log.end(),
+            len: self.room.len().saturating_sub(FRONT_LEN),
+            when,
+            told,
+        };
+        // The room in memory comes first: a record that is written can't be taken back.
+        let before = self.pieces.insert(number, Some(piece))?;
+        match self.log.append(&self.room) {
+            Ok(()) => Ok(()),
+            Err(fault) => {
+                self.put_back(number, before);
+                Err(FilesFault::from(fault))
+            }
+        }
+    }
+}
+
+// How many bytes stand behind the fields of such a record at most.
+fn most_behind(note: Note) -> u64
+    ensures { result ≤ 2 ^ 23 }
+{
+    match note {
+        Note::Stored => LONGEST_RECORD as u64,
+        Note::Directory => LONGEST_DIRECTORY as u64,
+        Note::Part => (PART_LEN + LONGEST_DIRECTORY) as u64,
+        Note::Parts => (PARTS_LEN + LONGEST_DIRECTORY) as u64,
+        Note::Removed | Note::Elsewhere => 0,
+    }
+}
+
+// Reads what stands behind the fields of the record that begins there into that room, whose bytes go, and tells which
+// record it is. It is still whole: a header that is made of what it tells hides what the disk has changed.
+fn read_behind<R: Files + Drop>(
+    log: &mut Log<R>,
+    at: u64,
+    room: &mut Vec<u8>,
+) -> Result<Note, FilesFault> {
+    let mut front = [0; FRONT_LEN];
+    log.read(at, &mut front)?;
+    let Some(Fields { note, len, .. }) = fields_in(&front) else {
+        return Err(FilesFault::Device);
+    };
+    if len > most_behind(note) {
+        return Err(FilesFault::Device);
+    }
+    room.clear();
+    room.resize(FRONT_LEN + len as usize, 0)?;
+    log.read(at, room.as_mut_slice())?;
+    if !is_whole(room) {
+        return Err(FilesFault::Device);
+    }
+    room.rotate_left(FRONT_LEN);
+    room.truncate(room.len() - FRONT_LEN);
+    Ok(note)
 }
 
 impl<R: Files + Clock + Drop> Journal<Outside> for FolderJournal<R> {
@@ -174,7 +401,7 @@ impl<R: Files + Clock + Drop> Journal<Outside> for FolderJournal<R> {
         match self.pieces.get(&number).copied() {
             None => Ok(None),
             Some(None) => Ok(Some(None)),
-            Some(Some(piece)) => Ok(Some(Some(self.bytes_of(alloc, piece)?))),
+            Some(Some(piece)) => Ok(Some(Some(self.bytes_of(alloc, number, piece)?))),
         }
     }
 
@@ -183,7 +410,7 @@ impl<R: Files + Clock + Drop> Journal<Outside> for FolderJournal<R> {
         match self.pieces.get(&number).copied() {
             None => Ok(None),
             Some(None) => Ok(Some(None)),
-            Some(Some(piece)) => match self.head_of(piece) {
+            Some(Some(piece)) => match self.head_of(number, piece) {
                 Ok(head) => Ok(Some(Some(head))),
                 Err(_) => Err(FilesFault::Device),
             },
@@ -193,38 +420,41 @@ impl<R: Files + Clock + Drop> Journal<Outside> for FolderJournal<R> {
     /// The record is written at once, header and bytes together. It doesn't wait for the disk: `settle` does.
     fn store(&mut self, alloc: Global, number: u64, bytes: &[u8]) -> Result<(), FilesFault> {
         let when = now(self.log.files());
-        write_record(&mut self.room, number, when, bytes)?;
-        let piece = Piece {
-            start: self.log.end().saturating_add(FRONT_LEN as u64),
-            len: bytes.len(),
-            when,
-        };
-        // The room in memory comes first: a record that is written can't be taken back.
-        let before = self.pieces.insert(number, Some(piece))?;
-        match self.log.append(&self.room) {
-            Ok(()) => Ok(()),
-            Err(fault) => {
-                self.put_back(number, before);
-                Err(FilesFault::from(fault))
-            }
+        write_record(&mut self.room, Note::Stored, number, when, &[], bytes)?;
+        self.put_record(number, when, Told::File)?;
+        self.bodies.forget(number);
+        Ok(())
+    }
+
+    /// What has changed in the body is written alone, where the body before it is known and most of it stays.
+    fn store_directory(
+        &mut self,
+        alloc: Global,
+        number: u64,
+        body: &[u8],
+    ) -> Result<(), FilesFault> {
+        let when = now(self.log.files());
+        let told = self.write_body(number, when, body)?;
+        self.put_record(number, when, told)?;
+        if body.len() >= LEAST_CHANGED {
+            self.bodies.keep(alloc, number, body);
+        } else {
+            self.bodies.forget(number);
         }
+        Ok(())
     }
 
     fn remove(&mut self, number: u64) -> Result<bool, FilesFault> {
-        let record = short_record(Note::Removed, number);
+        self.bodies.forget(number);
         match self.pieces.insert(number, None) {
-            Ok(before) => match self.log.append(&record) {
+            Ok(before) => match self.log.append(&short_record(Note::Removed, number)) {
                 Ok(()) => Ok(true),
                 Err(_) => {
                     self.put_back(number, before);
                     Err(FilesFault::Device)
                 }
             },
-            // The record is written all the same, in its order among the others.
-            Err(_) => match self.log.append(&record) {
-                Ok(()) => Ok(false),
-                Err(_) => Err(FilesFault::Device),
-            },
+            Err(_) => Ok(false),
         }
     }
 
@@ -238,6 +468,7 @@ impl<R: Files + Clock + Drop> Journal<Outside> for FolderJournal<R> {
                 return Err(FilesFault::Device);
             }
             self.pieces.remove(&number);
+            self.bodies.forget(number);
         }
         Ok(())
     }
@@ -282,6 +513,7 @@ impl<R: Files + Clock + Drop> Journal<Outside> for FolderJournal<R> {
     fn empty(&mut self) -> Result<(), FilesFault> {
         self.log.remove()?;
         self.pieces = BTreeMap::new(self.alloc);
+        self.bodies.clear();
         self.full_at = FULL;
         Ok(())
     }

@@ -8,6 +8,8 @@ use std::alloc::Global;
 /// What it says is promised where the World is honest. After an error nothing has changed.
 pub trait Journal<W: World>: Drop {
     ghost use Rattle.std.specs.Prelude.{◌≡◌, ◌≢◌, true, false, None, Some, Ok, IfOk, IfErr, IsSome, OnOk, OnErr};
+    ghost use Rattle.eden_overlay_format.specs.Stored.{written};
+    ghost use Rattle.eden_overlay_format.specs.declared.header.Identifier.TheVariants as identifier;
     ghost use Rattle.eden_overlay.specs.declared.files.FilesFault.TheVariants.{Device};
     ghost use Rattle.eden_overlay_journal.specs.Changes.{Changes, IsHeadIn, ListsChanges, change_of, noted, unchanged};
 
@@ -26,8 +28,8 @@ pub trait Journal<W: World>: Drop {
         ensures found { W.honest → IfOk result (λ o. change_of o ≡ changes self.old number) }
         ensures unchanged { W.honest → changes self.new ≡ changes self.old };
 
-    /// The head of the file of that number, or that it was removed; None where nothing is said of it. It takes no
-    /// memory: its one error is the device's.
+    /// The head of the file of that number, or that it was removed; None where nothing is said of it. Its one error is
+    /// the device's.
     fn head(&mut self, number: u64) -> Result<Option<Option<Head>>, FilesFault>
         ensures found { W.honest → IfOk result (IsHeadIn (changes self.old number)) }
         ensures unchanged { W.honest → changes self.new ≡ changes self.old }
@@ -37,6 +39,12 @@ pub trait Journal<W: World>: Drop {
     fn store(&mut self, alloc: Global, number: u64, bytes: &[u8]) -> Result<(), FilesFault>
         ensures ok { W.honest → OnOk result
             (changes self.new ≡ noted (changes self.old) number (Some (Some bytes.now))) }
+        ensures err { W.honest → OnErr result (changes self.new ≡ changes self.old) };
+
+    /// Notes that the file of that number is a directory's with that body, behind its header.
+    fn store_directory(&mut self, alloc: Global, number: u64, body: &[u8]) -> Result<(), FilesFault>
+        ensures ok { W.honest → OnOk result (changes self.new
+            ≡ noted (changes self.old) number (Some (Some (written identifier.Directory body.now)))) }
         ensures err { W.honest → OnErr result (changes self.new ≡ changes self.old) };
 
     /// Notes that there is no file of that number. It answers false where it has no room in memory to say so: then it

@@ -1,14 +1,17 @@
-ghost use Rattle.std.specs.Prelude.{◌≡◌, ◌≢◌, Err, IfOk};
-ghost use Rattle.eden_model.specs.Failures.{one_more};
+ghost use Rattle.std.specs.Prelude.{◌≡◌, ◌≢◌, Err, Some, IfOk, OnErr, OnOk};
+ghost use Rattle.eden_model.specs.Failures.{Counted, one_more};
+ghost use Rattle.eden_overlay.specs.Files.{put};
 ghost use Rattle.eden_overlay.specs.declared.files.FilesFault.TheVariants as fault;
-ghost use Rattle.eden_overlay_journal.specs.Changes.{at_opening, unchanged};
+ghost use Rattle.eden_overlay_journal.specs.Changes.{at_opening, changed, unchanged};
+ghost use Rattle.eden_overlay_journal.specs.New.{bytes_as};
 
 use crate::journal::Journal;
-use crate::pouring::{STATE_NUMBER, take_in};
-use crate::seen::{Standing, head, list, read, read_part, remove, replace, replace_joined, sync};
+use crate::new_file::NewFile;
+use crate::pouring::take_in;
+use crate::seen::{Standing, head, list, read, read_part, remove, replace, sync};
 use eden_model::World;
-use eden_overlay::{Files, FilesFault};
-use eden_overlay_format::Head;
+use eden_overlay::{Files, FilesFault, STATE_NUMBER, count_failures};
+use eden_overlay_format::{Head, Identifier, header_of};
 use std::alloc::Global;
 use std::marker::Model;
 
@@ -59,6 +62,32 @@ impl<F, J> Journaled<F, J> {
     }
 }
 
+impl<F, J> Journaled<F, J> {
+    // Has the file of that number have that.
+    fn put<W: World>(
+        &mut self,
+        alloc: Global,
+        number: u64,
+        new: NewFile<'_>,
+    ) -> Result<(), FilesFault>
+    where
+        F: Files<W>,
+        J: Journal<W>,
+        ensures ok { W.honest → OnOk result (changed (J.changes self.new.journal) (F.stored self.new.files)
+            ≡ put (changed (J.changes self.old.journal) (F.stored self.old.files)) number (Some (bytes_as new.entry))) }
+        ensures err { W.honest → OnErr result (changed (J.changes self.new.journal) (F.stored self.new.files)
+            ≡ changed (J.changes self.old.journal) (F.stored self.old.files)) }
+        ensures counted { Counted (result ≡ Err fault.Device) self.old.failures self.new.failures }
+    {
+        self.standing.is_closed = self.standing.is_closed || number == STATE_NUMBER;
+        let standing = self.standing;
+        let (files, journal) = (&mut self.files, &mut self.journal);
+        let answer = replace::<W, _, _>(alloc, files, journal, standing, number, new);
+        self.failures = count_failures(self.failures, &answer);
+        answer
+    }
+}
+
 impl<W: World, F: Files<W>, J: Journal<W>> Files<W> for Journaled<F, J> {
     ghost use Rattle.eden_overlay_journal.specs.Changes.{changed};
 
@@ -72,13 +101,13 @@ impl<W: World, F: Files<W>, J: Journal<W>> Files<W> for Journaled<F, J> {
 
     fn read(&mut self, alloc: Global, number: u64) -> Result<Option<Vec<u8>>, FilesFault> {
         let answer = read::<W, _, _>(alloc, &mut self.files, &mut self.journal, number);
-        self.failures = count(self.failures, &answer);
+        self.failures = count_failures(self.failures, &answer);
         answer
     }
 
     fn head(&mut self, number: u64) -> Result<Option<Head>, FilesFault> {
         let answer = head::<W, _, _>(&mut self.files, &mut self.journal, number);
-        self.failures = count(self.failures, &answer);
+        self.failures = count_failures(self.failures, &answer);
         answer
     }
 
@@ -91,17 +120,12 @@ impl<W: World, F: Files<W>, J: Journal<W>> Files<W> for Journaled<F, J> {
     ) -> Result<Option<Vec<u8>>, FilesFault> {
         let (files, journal) = (&mut self.files, &mut self.journal);
         let answer = read_part::<W, _, _>(alloc, files, journal, number, from, most);
-        self.failures = count(self.failures, &answer);
+        self.failures = count_failures(self.failures, &answer);
         answer
     }
 
     fn replace(&mut self, alloc: Global, number: u64, bytes: &[u8]) -> Result<(), FilesFault> {
-        self.standing.is_closed = self.standing.is_closed || number == STATE_NUMBER;
-        let standing = self.standing;
-        let (files, journal) = (&mut self.files, &mut self.journal);
-        let answer = replace::<W, _, _>(alloc, files, journal, standing, number, bytes);
-        self.failures = count(self.failures, &answer);
-        answer
+        self.put::<W>(alloc, number, NewFile::Bytes(bytes))
     }
 
     fn replace_joined(
@@ -111,14 +135,24 @@ impl<W: World, F: Files<W>, J: Journal<W>> Files<W> for Journaled<F, J> {
         front: &[u8],
         behind: &[u8],
     ) -> Result<(), FilesFault> {
-        self.standing.is_closed = self.standing.is_closed || number == STATE_NUMBER;
-        let standing = self.standing;
-        let (files, journal) = (&mut self.files, &mut self.journal);
-        let answer = replace_joined::<W, _, _>(
-            alloc, files, journal, standing, number, front, behind,
-        );
-        self.failures = count(self.failures, &answer);
-        answer
+        self.put::<W>(alloc, number, NewFile::Joined(front, behind))
+    }
+
+    /// A directory is noted without its header.
+    fn replace_body(
+        &mut self,
+        alloc: Global,
+        number: u64,
+        identifier: Identifier,
+        body: &[u8],
+    ) -> Result<(), FilesFault> {
+        match identifier {
+            Identifier::Directory => self.put::<W>(alloc, number, NewFile::Directory(body)),
+            Identifier::File | Identifier::Numbers => {
+                let header = header_of(identifier, body);
+                self.put::<W>(alloc, number, NewFile::Joined(&header, body))
+            }
+        }
     }
 
     fn remove(&mut self, number: u64) -> Result<(), FilesFault> {
@@ -127,7 +161,7 @@ impl<W: World, F: Files<W>, J: Journal<W>> Files<W> for Journaled<F, J> {
         if number == STATE_NUMBER && answer.is_ok() {
             self.standing.is_closed = false;
         }
-        self.failures = count(self.failures, &answer);
+        self.failures = count_failures(self.failures, &answer);
         answer
     }
 
@@ -135,14 +169,14 @@ impl<W: World, F: Files<W>, J: Journal<W>> Files<W> for Journaled<F, J> {
     fn sync(&mut self, alloc: Global) -> Result<(), FilesFault> {
         self.standing.is_promised = true;
         let answer = sync::<W, _, _>(alloc, &mut self.files, &mut self.journal);
-        self.failures = count(self.failures, &answer);
+        self.failures = count_failures(self.failures, &answer);
         answer
     }
 
     fn list(&mut self, alloc: Global) -> Result<Vec<u64>, FilesFault> {
         let (files, journal) = (&mut self.files, &mut self.journal);
         let answer = list::<W, _, _>(alloc, files, journal, self.standing);
-        self.failures = count(self.failures, &answer);
+        self.failures = count_failures(self.failures, &answer);
         answer
     }
 }
@@ -172,15 +206,4 @@ pub fn taken_in<W: World, F: Files<W>, J: Journal<W>>(
         },
         failures: 0,
     })
-}
-
-// The count of failures after that answer.
-fn count<T>(failures: u64, answer: &Result<T, FilesFault>) -> u64
-    ensures failed { answer.now ≡ Err fault.Device → result ≡ one_more failures }
-    ensures passed { answer.now ≢ Err fault.Device → result ≡ failures }
-{
-    match answer {
-        Err(FilesFault::Device) => failures.saturating_add(1),
-        _ => failures,
-    }
 }

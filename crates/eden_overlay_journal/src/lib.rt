@@ -10,12 +10,16 @@
 //! and drops a record that was cut, is shown by tests.
 #![tactic(auto)]
 
+mod bodies;
+mod change;
 mod dates;
 mod folder;
 mod journal;
 mod journaled;
 mod log;
 mod memory;
+mod new_file;
+mod part;
 mod pouring;
 mod record;
 mod seen;
@@ -24,4 +28,4 @@ pub use folder::FolderJournal;
 pub use journal::Journal;
 pub use journaled::{Journaled, taken_in};
 pub use memory::MemoryJournal;
-pub use seen::LONGEST_RECORD;
+pub use new_file::{LONGEST_DIRECTORY, LONGEST_RECORD};

@@ -3,11 +3,13 @@ ghost use Rattle.eden_overlay.specs.declared.files.FilesFault.TheVariants as fau
 ghost use Rattle.eden_overlay_journal.specs.Changes.{IsHeadIn, ListsChanges, change_of, changes_in, noted, unchanged};
 ghost use Rattle.std.specs.Option.{option_copied};
 ghost use Rattle.eden_overlay_format.specs.Content.{IsHead};
+ghost use Rattle.eden_overlay_format.specs.Stored.{written};
+ghost use Rattle.eden_overlay_format.specs.declared.header.Identifier.TheVariants as identifier;
 
 use crate::journal::Journal;
 use eden_model::World;
 use eden_overlay::FilesFault;
-use eden_overlay_format::{HEADER_LEN, Head};
+use eden_overlay_format::{HEADER_LEN, Head, Identifier, header_of};
 use std::alloc::{AllocError, Global};
 use std::collections::BTreeMap;
 use std::marker::PhantomData;
@@ -68,6 +70,18 @@ impl<W: World> Journal<W> for MemoryJournal<W> {
     {
         let bytes = Vec::from_slice(alloc, bytes)?;
         self.files.insert(number, Some(bytes))?;
+        Ok(())
+    }
+
+    fn store_directory(&mut self, alloc: Global, number: u64, body: &[u8]) -> Result<(), FilesFault>
+        ensures ok { OnOk result (changes_in self.new.files
+            ≡ noted (changes_in self.old.files) number (Some (Some (written identifier.Directory body.now)))) }
+        ensures err { OnErr result (changes_in self.new.files ≡ changes_in self.old.files) }
+        ensures fault { IfErr result (λ f. f ≡ fault.Memory) }
+    {
+        let mut file = Vec::from_slice(alloc, &header_of(Identifier::Directory, body))?;
+        file.extend_from_slice(body)?;
+        self.files.insert(number, Some(file))?;
         Ok(())
     }
 

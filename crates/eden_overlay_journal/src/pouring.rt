@@ -5,7 +5,7 @@ ghost use Rattle.eden_overlay_journal.specs.Changes.{at_opening, changed, unchan
 
 use crate::journal::Journal;
 use eden_model::World;
-use eden_overlay::{Files, FilesFault};
+use eden_overlay::{Files, FilesFault, STATE_NUMBER};
 use std::alloc::Global;
 
 // Does to the file what the journal says of it.
@@ -131,9 +131,6 @@ fn pour_all<W: World, F: Files<W>, J: Journal<W>>(
     }
     Ok(())
 }
-
-/// The file of the state, which is never noted: where it is stored, the journal says nothing.
-pub(crate) const STATE_NUMBER: u64 = 0;
 
 // Does to the files what a journal says that was left, and empties it. Where the state is stored the journal is from
 // before that, since it was emptied then: a program that knows of no journals passed it over. Answers whether it is.

@@ -1,21 +1,23 @@
 // How files with a journal over them are read and changed.
-ghost use Rattle.std.specs.Prelude.{◌≡◌, ◌≤◌, ◌++◌, None, Some, IfOk, IfErr, IfSome, OnOk, OnErr};
+ghost use Rattle.std.specs.Prelude.{◌≡◌, ◌≤◌, None, Some, IfOk, IfErr, IfSome, OnOk, OnErr};
 ghost use Rattle.std.specs.Prelude.{length, option_map};
 ghost use Rattle.std.specs.Ordering.{nat_cmp};
 ghost use Rattle.std.specs.List.Sorted.{IsStrictlySortedBy};
 ghost use Rattle.eden_overlay.specs.Files.{IsHeadOf, Lists, part, put};
 ghost use Rattle.eden_overlay.specs.declared.files.FilesFault.TheVariants as fault;
 ghost use Rattle.eden_overlay_journal.specs.Changes.{changed};
+ghost use Rattle.eden_overlay_journal.specs.New.{bytes_as};
 
 use crate::journal::Journal;
-use crate::pouring::{STATE_NUMBER, Wait, pour};
+use crate::new_file::{NewFile, note, store};
+use crate::pouring::{Wait, pour};
 use eden_model::World;
-use eden_overlay::{Files, FilesFault, part_of};
+use eden_overlay::{Files, FilesFault, STATE_NUMBER, part_of};
 use eden_overlay_format::Head;
-use std::alloc::{AllocError, Global};
+use std::alloc::Global;
 
-/// The longest file that is noted in a journal, in bytes. A longer one goes to the files at once.
-pub const LONGEST_RECORD: usize = 128 << 10;
+/// A file of so many bytes goes as soon as the disk has what the journal says; others go when that is emptied.
+const LARGE: u64 = 16 << 20;
 
 /// What stands in the way of a note in the journal, and of letting it go.
 #[derive(Clone, Copy)]
@@ -137,15 +139,15 @@ pub(crate) fn replace<W: World, F: Files<W>, J: Journal<W>>(
     journal: &mut J,
     standing: Standing,
     number: u64,
-    bytes: &[u8],
+    new: NewFile<'_>,
 ) -> Result<(), FilesFault>
     ensures ok { W.honest → OnOk result (changed (J.changes journal.new) (F.stored files.new)
-        ≡ put (changed (J.changes journal.old) (F.stored files.old)) number (Some bytes.now)) }
+        ≡ put (changed (J.changes journal.old) (F.stored files.old)) number (Some (bytes_as new.entry))) }
     ensures err { W.honest → OnErr result (changed (J.changes journal.new) (F.stored files.new)
         ≡ changed (J.changes journal.old) (F.stored files.old)) }
 {
     make_room::<W, _, _>(alloc, files, journal, standing)?;
-    put_in::<W, _, _>(alloc, files, journal, standing, number, bytes)
+    put_in::<W, _, _>(alloc, files, journal, standing, number, new)
 }
 
 // Notes the file, or stores it where it is too long, or nothing is noted.
@@ -155,93 +157,25 @@ fn put_in<W: World, F: Files<W>, J: Journal<W>>(
     journal: &mut J,
     standing: Standing,
     number: u64,
-    bytes: &[u8],
+    new: NewFile<'_>,
 ) -> Result<(), FilesFault>
     ensures ok { W.honest → OnOk result (changed (J.changes journal.new) (F.stored files.new)
-        ≡ put (changed (J.changes journal.old) (F.stored files.old)) number (Some bytes.now)) }
+        ≡ put (changed (J.changes journal.old) (F.stored files.old)) number (Some (bytes_as new.entry))) }
     ensures err { W.honest → OnErr result (changed (J.changes journal.new) (F.stored files.new)
         ≡ changed (J.changes journal.old) (F.stored files.old)) }
 {
-    if standing.is_closed || bytes.len() > LONGEST_RECORD {
-        return put_past::<W, _, _>(alloc, files, journal, standing, number, bytes);
-    }
-    match journal.store(alloc, number, bytes) {
+    let answer = if standing.is_closed || !new.is_short() {
+        put_past::<W, _, _>(alloc, files, journal, standing, number, new)
+    } else {
+        note::<W, _>(alloc, journal, number, new)
+    };
+    match answer {
         // As on a full disk, on which there may be room once the journal is gone, and what it says was removed.
         Err(FilesFault::Device) => {
-            put_poured::<W, _, _>(alloc, files, journal, standing, number, bytes)
+            put_poured::<W, _, _>(alloc, files, journal, standing, number, new)
         }
         answer => answer,
     }
-}
-
-// The bytes of both are put together where the journal notes them.
-pub(crate) fn replace_joined<W: World, F: Files<W>, J: Journal<W>>(
-    alloc: Global,
-    files: &mut F,
-    journal: &mut J,
-    standing: Standing,
-    number: u64,
-    front: &[u8],
-    behind: &[u8],
-) -> Result<(), FilesFault>
-    ensures ok { W.honest → OnOk result (changed (J.changes journal.new) (F.stored files.new)
-        ≡ put (changed (J.changes journal.old) (F.stored files.old)) number (Some (front.now ++ behind.now))) }
-    ensures err { W.honest → OnErr result (changed (J.changes journal.new) (F.stored files.new)
-        ≡ changed (J.changes journal.old) (F.stored files.old)) }
-{
-    if front.len().saturating_add(behind.len()) > LONGEST_RECORD {
-        return replace_long::<W, _, _>(alloc, files, journal, standing, number, front, behind);
-    }
-    let bytes = joined(alloc, front, behind)?;
-    replace::<W, _, _>(alloc, files, journal, standing, number, &bytes)
-}
-
-// What is too long for the journal goes to the files as it lies.
-fn replace_long<W: World, F: Files<W>, J: Journal<W>>(
-    alloc: Global,
-    files: &mut F,
-    journal: &mut J,
-    standing: Standing,
-    number: u64,
-    front: &[u8],
-    behind: &[u8],
-) -> Result<(), FilesFault>
-    ensures ok { W.honest → OnOk result (changed (J.changes journal.new) (F.stored files.new)
-        ≡ put (changed (J.changes journal.old) (F.stored files.old)) number (Some (front.now ++ behind.now))) }
-    ensures err { W.honest → OnErr result (changed (J.changes journal.new) (F.stored files.new)
-        ≡ changed (J.changes journal.old) (F.stored files.old)) }
-{
-    make_room::<W, _, _>(alloc, files, journal, standing)?;
-    put_past_joined::<W, _, _>(alloc, files, journal, standing, number, front, behind)
-}
-
-// Stores both past the journal, which says nothing of the file any more.
-fn put_past_joined<W: World, F: Files<W>, J: Journal<W>>(
-    alloc: Global,
-    files: &mut F,
-    journal: &mut J,
-    standing: Standing,
-    number: u64,
-    front: &[u8],
-    behind: &[u8],
-) -> Result<(), FilesFault>
-    ensures ok { W.honest → OnOk result (changed (J.changes journal.new) (F.stored files.new)
-        ≡ put (changed (J.changes journal.old) (F.stored files.old)) number (Some (front.now ++ behind.now))) }
-    ensures err { W.honest → OnErr result (changed (J.changes journal.new) (F.stored files.new)
-        ≡ changed (J.changes journal.old) (F.stored files.old)) }
-{
-    files.replace_joined(alloc, number, front, behind)?;
-    wait_past::<W, _>(alloc, files, standing);
-    journal.pass(number)
-}
-
-// The bytes of both.
-fn joined(alloc: Global, front: &[u8], behind: &[u8]) -> Result<Vec<u8>, AllocError>
-    ensures { IfOk result (λ v. v.items ≡ front.now ++ behind.now) }
-{
-    let mut bytes = Vec::from_slice(alloc, front)?;
-    bytes.extend_from_slice(behind)?;
-    Ok(bytes)
 }
 
 // Stores the file past the journal, once that is empty.
@@ -251,15 +185,15 @@ fn put_poured<W: World, F: Files<W>, J: Journal<W>>(
     journal: &mut J,
     standing: Standing,
     number: u64,
-    bytes: &[u8],
+    new: NewFile<'_>,
 ) -> Result<(), FilesFault>
     ensures ok { W.honest → OnOk result (changed (J.changes journal.new) (F.stored files.new)
-        ≡ put (changed (J.changes journal.old) (F.stored files.old)) number (Some bytes.now)) }
+        ≡ put (changed (J.changes journal.old) (F.stored files.old)) number (Some (bytes_as new.entry))) }
     ensures err { W.honest → OnErr result (changed (J.changes journal.new) (F.stored files.new)
         ≡ changed (J.changes journal.old) (F.stored files.old)) }
 {
     pour::<W, _, _>(alloc, files, journal, standing.wait())?;
-    put_past::<W, _, _>(alloc, files, journal, standing, number, bytes)
+    put_past::<W, _, _>(alloc, files, journal, standing, number, new)
 }
 
 // Stores the file past the journal, which says nothing of it any more.
@@ -269,15 +203,15 @@ fn put_past<W: World, F: Files<W>, J: Journal<W>>(
     journal: &mut J,
     standing: Standing,
     number: u64,
-    bytes: &[u8],
+    new: NewFile<'_>,
 ) -> Result<(), FilesFault>
     ensures ok { W.honest → OnOk result (changed (J.changes journal.new) (F.stored files.new)
-        ≡ put (changed (J.changes journal.old) (F.stored files.old)) number (Some bytes.now)) }
+        ≡ put (changed (J.changes journal.old) (F.stored files.old)) number (Some (bytes_as new.entry))) }
     ensures err { W.honest → OnErr result (changed (J.changes journal.new) (F.stored files.new)
         ≡ changed (J.changes journal.old) (F.stored files.old)) }
 {
     settle_first::<W, _>(journal, standing);
-    files.replace(alloc, number, bytes)?;
+    store::<W, _>(alloc, files, number, new)?;
     wait_past::<W, _>(alloc, files, standing);
     journal.pass(number)
 }
@@ -316,12 +250,31 @@ pub(crate) fn remove<W: World, F: Files<W>, J: Journal<W>>(
         ≡ changed (J.changes journal.old) (F.stored files.old)) }
     ensures fault { IfErr result (λ f. f ≡ fault.Device) }
 {
-    if standing.is_closed || number == STATE_NUMBER {
+    if standing.is_closed
+        || number == STATE_NUMBER
+        || goes_at_once::<W, _, _>(files, journal, number)
+    {
         return remove_past::<W, _, _>(files, journal, standing, number);
     }
     match journal.remove(number)? {
         true => Ok(()),
         false => remove_unnoted::<W, _, _>(files, journal, standing, number),
+    }
+}
+
+// Whether the file of that number is removed past the journal: a large one, whose room may be wanted. The disk has what
+// the journal says then, since a loss of power could else leave a directory that names the file.
+fn goes_at_once<W: World, F: Files<W>, J: Journal<W>>(
+    files: &mut F,
+    journal: &mut J,
+    number: u64,
+) -> bool
+    ensures files { W.honest → F.stored files.new ≡ F.stored files.old }
+    ensures journal { W.honest → J.changes journal.new ≡ J.changes journal.old }
+{
+    match files.head(number) {
+        Ok(Some(head)) if head.len >= LARGE => journal.settle().is_ok(),
+        _ => false,
     }
 }
 

@@ -18,9 +18,9 @@ pub enum Durability {
 /// Makes the bytes of the pieces, one behind the other, the whole of the file at the path, in place of any that is
 /// there: they are written to `PATH.new`, which then takes the path's name.
 ///
-/// `PATH.new` is always a new file: one that is there, as a failure left it, is removed first, or a link or a pipe,
-/// and nothing is written to what it was. `Device` too where a folder is in the way. After an error the file at the
-/// path is what it was.
+/// `PATH.new` is always a new file: one that is there, as a kill left it, is removed first, or a link or a pipe, and
+/// nothing is written to what it was. `Device` too where a folder is in the way. After an error the file at the path is
+/// what it was, and `PATH.new` is removed, as far as that can be: on a full disk it would keep what room there is.
 pub fn replace_file<R: rt::Files>(
     files: &R,
     alloc: Global,
@@ -29,15 +29,30 @@ pub fn replace_file<R: rt::Files>(
     durability: Durability,
 ) -> Result<(), FolderFault> {
     let beside = beside(alloc, path)?;
-    let mut file = create_new(files, beside.as_str())?;
+    let new = create_new(files, beside.as_str())?;
+    let answer = match fill(new, pieces, durability) {
+        Ok(()) => fs::rename(files, beside.as_str(), path),
+        failed => failed,
+    };
+    if answer.is_err() {
+        // What failed is told, whatever comes of this.
+        let _ = fs::remove_file(files, beside.as_str());
+    }
+    Ok(answer?)
+}
+
+// Writes the pieces to the new file, and closes it.
+fn fill<F: Write + OpenFile + Drop>(
+    mut file: F,
+    pieces: &[&[u8]],
+    durability: Durability,
+) -> io::Result<()> {
     for piece in pieces {
         file.write_all(piece)?;
     }
     if durability == Durability::Synced {
         file.sync_data()?;
     }
-    drop(file);
-    fs::rename(files, beside.as_str(), path)?;
     Ok(())
 }
 

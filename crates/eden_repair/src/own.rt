@@ -1,15 +1,13 @@
 //! Own directories: what can't be had is taken out of them.
 ghost use Rattle.std.specs.Prelude.{[], ◌≡◌, ◌≤◌, ◌+◌, ◌++◌, ℕ, List, length};
-ghost use Rattle.std.specs.Prelude.{None, Err, IfOk, IfSome, IsTrue, OnOk, OnErr};
+ghost use Rattle.std.specs.Prelude.{Err, IfOk, IsTrue, OnOk, OnErr};
 ghost use Rattle.std.specs.Ordering.{nat_cmp};
 ghost use Rattle.std.specs.BTreeSet.{contains, btree_set_len};
 ghost use Rattle.eden_model.specs.Failures.{Counted};
 ghost use Rattle.eden_model.specs.Limits.{number_end};
 ghost use Rattle.eden_model.specs.Numbers.{IsNumber};
 ghost use Rattle.eden_model.specs.declared.kind.Origin.TheVariants as origin;
-ghost use Rattle.eden_overlay_format.specs.Directory.{AreStorable};
 ghost use Rattle.eden_overlay.specs.Files.{Stored};
-ghost use Rattle.eden_overlay.specs.Held.{HoldsEntries, entries_at};
 ghost use Rattle.eden_overlay.specs.declared.files.FilesFault.TheVariants as fault;
 ghost use Rattle.eden_repair.specs.Repairing.{Way, Stores};
 ghost use Rattle.eden_repair.specs.Surveying.{CoversOwn, IsMended, MendsOn};
@@ -17,33 +15,10 @@ ghost use Rattle.eden_repair.specs.Surveying.{CoversOwn, IsMended, MendsOn};
 use crate::finding::Finding;
 use crate::survey::{Directory, Sorted, sort_out};
 use eden_model::World;
-use eden_overlay::{Files, FilesFault};
-use eden_overlay_format::{DecodeFault, Listing, StoredEntry, decode_dir};
+use eden_overlay::{Files, FilesFault, entries_of};
+use eden_overlay_format::Listing;
 use std::alloc::Global;
 use std::collections::BTreeSet;
-
-// The entries of the directory of that number; None if its file isn't there, or holds none.
-fn entries_of<W: World, F: Files<W>>(
-    alloc: Global,
-    files: &mut F,
-    number: u64,
-) -> Result<Option<Vec<StoredEntry>>, FilesFault>
-    ensures held { W.honest
-        → IfOk result (λ o. IfSome o (λ v. HoldsEntries (F.stored files.old) number v.items)) }
-    ensures none { W.honest → IfOk result (λ o. o ≡ None → entries_at (F.stored files.old) number ≡ None) }
-    ensures storable { IfOk result (λ o. IfSome o (λ v. AreStorable v.items)) }
-    ensures unchanged { W.honest → F.stored files.new ≡ F.stored files.old }
-    ensures counted { Counted (result ≡ Err fault.Device) (F.failures files.old) (F.failures files.new) }
-{
-    match files.read(alloc, number)? {
-        None => Ok(None),
-        Some(file) => match decode_dir(alloc, &file) {
-            Ok(entries) => Ok(Some(entries)),
-            Err(DecodeFault::Refused(_)) => Ok(None),
-            Err(DecodeFault::Memory) => Err(FilesFault::Memory),
-        },
-    }
-}
 
 // Stores what stays of a directory if anything goes, which is told. After an error nothing has changed, and nothing
 // more is told.

@@ -20,13 +20,10 @@ use crate::own::mend_own;
 use crate::saved::mend_saved;
 use crate::survey::Directory;
 use eden_model::{Id, Origin, World};
-use eden_overlay::{Files, FilesFault, Overlay, RescanFault};
+use eden_overlay::{Files, FilesFault, Overlay, ROOT_NUMBER, RescanFault};
 use eden_overlay_format::has_numbers;
 use std::alloc::Global;
 use std::collections::BTreeSet;
-
-/// The number of the root's file.
-const ROOT_NUMBER: u64 = 1;
 
 /// What a repair left.
 #[derive(Drop)]

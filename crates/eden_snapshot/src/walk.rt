@@ -18,15 +18,12 @@ use crate::submodules::Submodules;
 use crate::trail::Trail;
 use eden_model::{Id, Kind, Mode, Origin, TreeEntry, World};
 use eden_object::{encode_blob, encode_tree, id_of, is_encodable};
-use eden_overlay::{Files, Overlay};
+use eden_overlay::{Files, Overlay, ROOT_NUMBER};
 use eden_overlay_format::StoredEntry;
 use std::alloc::Global;
 
 /// How many levels below the top an own directory may lie.
 pub const LEVELS: u32 = 1024;
-
-/// The number of the root's file.
-pub(crate) const ROOT_NUMBER: u64 = 1;
 
 /// The id of a tree of what the files show above the commit's tree `root`. The sink has its objects then, beside those
 /// of the commit, and the paths of the directories that the tree leaves out.

@@ -47,3 +47,19 @@ pub fn folder_of(rt: &HostRuntime, name: &str, table: &[(&str, Made)]) -> io::Re
     make_all(rt, &folder, table)?;
     Ok(folder)
 }
+
+/// Changes the last byte of that file.
+pub fn damage(rt: &HostRuntime, folder: &PathBuf, name: &str) -> io::Result<()> {
+    let path = folder.join(rt.alloc(), name)?;
+    let mut bytes = fs::read(rt, path.as_path())?;
+    if let Some(last) = bytes.last_mut() {
+        *last ^= 1;
+    }
+    fs::write(rt, path.as_path(), bytes.as_slice())
+}
+
+/// Whether something in the folder has the name; None where that isn't known.
+pub fn has(rt: &HostRuntime, folder: &PathBuf, name: &str) -> Option<bool> {
+    let path = folder.join(rt.alloc(), name).ok()?;
+    fs::exists(rt, path.as_path()).ok()
+}

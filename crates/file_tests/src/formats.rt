@@ -7,8 +7,9 @@ ghost use Rattle.eden_model.specs.declared.kind.Kind.TheVariants as kind;
 
 use eden_model::{Id, Kind, Name, Origin};
 use eden_overlay_format::{
-    DecodeFault, Refusal, Spliced, State, StoredEntry, decode_dir, decode_file, decode_state,
-    encode_dir, encode_file, encode_file_in, encode_state, file_header,
+    DecodeFault, Identifier, Listing, Refusal, Spliced, State, StoredEntry, decode_dir,
+    decode_file, decode_state, encode_dir, encode_file, encode_state, encode_unsealed_in,
+    header_of,
 };
 use std::alloc::Global;
 use std::process::Abort;
@@ -88,26 +89,37 @@ fn contents(rt: HostRuntime) {
     assert!(rt; empty.len() == 64);
 }
 
-/// The content that is stored as those pieces.
-fn encoded(rt: &impl Abort, alloc: Global, content: Spliced<'_>) -> Vec<u8>
+/// Whether the bytes are room for a header, which is zeros, and those behind it.
+fn is_unsealed(bytes: &[u8], body: &[u8]) -> bool {
+    match bytes.split_first_chunk::<64>() {
+        Some((room, behind)) => *room == [0; 64] && behind == body,
+        None => false,
+    }
+}
+
+/// Whether the content of those pieces is encoded as room for a header and these bytes.
+fn is_encoded(rt: &impl Abort, alloc: Global, content: Spliced<'_>, bytes: &[u8]) -> bool
     requires { length content ≤ content_most }
 {
-    encode_file_in(Vec::new(alloc), content).expect(rt, "memory")
+    let unsealed = encode_unsealed_in(Vec::new(alloc), content).expect(rt, "memory");
+    is_unsealed(&unsealed, bytes)
 }
 
 #[test]
 fn spliced_contents(rt: HostRuntime) {
-    let old = b"hello";
-    let within = encoded(&rt, rt.alloc(), Spliced::written(old, 1, b"ipp"));
-    assert!(rt; decode_file(&within) == Ok(b"hippo".as_slice()));
-    let behind = encoded(&rt, rt.alloc(), Spliced::written(old, 7, b"you"));
-    assert!(rt; decode_file(&behind) == Ok(b"hello\0\0you".as_slice()));
-    let nothing = encoded(&rt, rt.alloc(), Spliced::written(old, 9, b""));
-    assert!(rt; decode_file(&nothing) == Ok(b"hello".as_slice()));
-    let cut = encoded(&rt, rt.alloc(), Spliced::resized(old, 2));
-    assert!(rt; decode_file(&cut) == Ok(b"he".as_slice()));
-    let filled = encoded(&rt, rt.alloc(), Spliced::resized(old, 6));
-    assert!(rt; decode_file(&filled) == Ok(b"hello\0".as_slice()));
+    let (alloc, old) = (rt.alloc(), b"hello");
+    assert!(rt; is_encoded(&rt, alloc, Spliced::written(old, 1, b"ipp"), b"hippo"));
+    assert!(rt;
+        is_encoded(
+            &rt,
+            alloc,
+            Spliced::written(old, 7, b"you"),
+            b"hello\0\0you"
+        )
+    );
+    assert!(rt; is_encoded(&rt, alloc, Spliced::written(old, 9, b""), b"hello"));
+    assert!(rt; is_encoded(&rt, alloc, Spliced::resized(old, 2), b"he"));
+    assert!(rt; is_encoded(&rt, alloc, Spliced::resized(old, 6), b"hello\0"));
 }
 
 #[test]
@@ -118,8 +130,10 @@ fn contents_in_one_piece(rt: HostRuntime) {
     assert!(rt; Spliced::written(b"hip", 0, old).as_slice() == Some(old.as_slice()));
     assert!(rt; Spliced::written(b"", 1, old).as_slice() == None);
     assert!(rt; Spliced::written(old, 0, b"y").as_slice() == None);
+    assert!(rt; Spliced::resized(old, 1).as_slice() == Some(&old[..1]));
+    assert!(rt; Spliced::resized(old, old.len() + 1).as_slice() == None);
     let abc = told(&rt, rt.alloc(), &NEW_FILE, &ABC, 0, b"abc");
-    assert!(rt; file_header(b"abc").as_slice() == cut(&rt, &abc, 64));
+    assert!(rt; header_of(Identifier::File, b"abc").as_slice() == cut(&rt, &abc, 64));
 }
 
 /// The front of a file of version 1, the byte that says nothing, and why the file is refused, if it is.
@@ -296,6 +310,15 @@ fn own_file_is_written(rt: HostRuntime) {
     let file = written(&rt, rt.alloc(), Origin::Own);
     assert!(rt; file == told(&rt, rt.alloc(), &NEW_DIRECTORY, &OWN_DIGEST, 0, OWN_BODY));
     assert!(rt; file.len() == 87);
+    let header = header_of(Identifier::Directory, OWN_BODY);
+    assert!(rt; header.as_slice() == cut(&rt, &file, 64));
+}
+
+#[test]
+fn own_file_is_listed(rt: HostRuntime) {
+    let entries = one_file(&rt, rt.alloc(), Origin::Own);
+    let listing = Listing::of(Vec::new(rt.alloc()), &entries).expect(&rt, "memory");
+    assert!(rt; is_unsealed(&listing.into_unsealed(), OWN_BODY));
 }
 
 const OBJECT_BODY: &[u8] =

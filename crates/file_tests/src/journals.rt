@@ -1,5 +1,5 @@
 //! Files with a journal over them: in memory, in a folder, cut, and stopped in the middle.
-use crate::folders::{Made, folder_of, make};
+use crate::folders::{Made, folder_of, has, make};
 use crate::kinds::{
     Answer, BEHAVIOUR, Call, SIXTY_FOUR, SIXTY_SIX, gives_all, gives_all_but_lists,
 };
@@ -20,23 +20,17 @@ use test_samples::{Call as SystemCall, FaultySystem};
 
 type InMemory = Journaled<MemoryFiles<Outside>, MemoryJournal<Outside>>;
 
-type InFolder = Journaled<FolderFiles<HostRuntime>, FolderJournal<HostRuntime>>;
+pub type InFolder = Journaled<FolderFiles<HostRuntime>, FolderJournal<HostRuntime>>;
 
 fn in_memory(alloc: Global) -> InMemory {
     Journaled::new(MemoryFiles::new(alloc), MemoryJournal::new(alloc))
 }
 
 // The files of the folder, as an opening finds them.
-fn opened(rt: &HostRuntime, folder: &PathBuf) -> Result<InFolder, FilesFault> {
+pub fn opened(rt: &HostRuntime, folder: &PathBuf) -> Result<InFolder, FilesFault> {
     let journal = FolderJournal::open(*rt, rt.alloc(), folder)?;
     let files = FolderFiles::new(*rt, folder.clone()?);
     taken_in::<Outside, _, _>(rt.alloc(), files, journal)
-}
-
-// Whether something in the folder has the name; None where that isn't known.
-fn has(rt: &HostRuntime, folder: &PathBuf, name: &str) -> Option<bool> {
-    let path = folder.join(rt.alloc(), name).ok()?;
-    fs::exists(rt, path.as_path()).ok()
 }
 
 #[test]
@@ -110,7 +104,7 @@ fn after(changes: usize) -> [(Call, Answer); 3] {
 }
 
 // A folder with a file 3, and these bytes as its journal.
-fn left(rt: &HostRuntime, name: &str, journal: &[u8]) -> io::Result<PathBuf> {
+pub fn left(rt: &HostRuntime, name: &str, journal: &[u8]) -> io::Result<PathBuf> {
     let folder = folder_of(rt, name, &[("3", Made::File(b"3"))])?;
     let path = folder.join(rt.alloc(), "journal")?;
     fs::write(rt, path.as_path(), journal)?;
@@ -233,7 +227,7 @@ fn a_file_has_the_time_of_its_change(rt: HostRuntime) {
 }
 
 // So many bytes, of which no proof has to know.
-fn of_length(alloc: Global, count: usize) -> Result<Vec<u8>, AllocError> {
+pub fn of_length(alloc: Global, count: usize) -> Result<Vec<u8>, AllocError> {
     [7; 1].repeat(alloc, count)
 }
 
@@ -454,6 +448,15 @@ impl Journal<Outside> for Roomless {
         Err(FilesFault::Memory)
     }
 
+    fn store_directory(
+        &mut self,
+        _alloc: Global,
+        _number: u64,
+        _body: &[u8],
+    ) -> Result<(), FilesFault> {
+        Err(FilesFault::Memory)
+    }
+
     fn remove(&mut self, _number: u64) -> Result<bool, FilesFault> {
         Ok(false)
     }
@@ -482,7 +485,8 @@ impl Journal<Outside> for Roomless {
     }
 }
 
-// Once somebody waited for the disk, it has what the journal says before a file is removed past it.
+// Once somebody waited for the disk, it has what the journal says before a file is removed past it. Each removal is two
+// calls of the files, since it looks first how long the file is.
 #[test]
 fn a_removal_without_room_waits_for_the_journal(rt: HostRuntime) {
     let alloc = rt.alloc();
@@ -496,11 +500,11 @@ fn a_removal_without_room_waits_for_the_journal(rt: HostRuntime) {
     let files = StopFiles::new(MemoryFiles::<Outside>::new(alloc), counted);
     let mut files = Journaled::new(files, journal);
     assert!(rt; Files::<Outside>::remove(&mut files, 5) == Ok(()));
-    assert!(rt; left.get() == 8 && at_wait.get() == 0);
+    assert!(rt; left.get() == 7 && at_wait.get() == 0);
     assert!(rt; Files::<Outside>::sync(&mut files, alloc) == Ok(()));
     at_wait.set(0);
     assert!(rt; Files::<Outside>::remove(&mut files, 5) == Ok(()));
-    assert!(rt; left.get() == 6 && at_wait.get() == 7);
+    assert!(rt; left.get() == 4 && at_wait.get() == 5);
 }
 
 // Where the journal can't be written, what it had goes into the files, and the change too.
@@ -525,6 +529,38 @@ fn a_change_goes_past_a_failing_journal(rt: HostRuntime) {
         assert!(rt; has(&rt, &folder, "journal") == Some(false));
         fs::remove_dir_all(&rt, folder.as_path()).expect(&rt, "a folder");
     }
+}
+
+// As on a full disk, of which the journal has yet to remove what nobody wants any more.
+#[test]
+fn a_store_that_fails_is_made_once_the_journal_is_empty(rt: HostRuntime) {
+    let alloc = rt.alloc();
+    let files = FailingFiles::new(MemoryFiles::<Outside>::new(alloc), 1);
+    let mut files = Journaled::new(files, MemoryJournal::<Outside>::new(alloc));
+    let long = of_length(alloc, LONGEST_RECORD + 1).expect(&rt, "memory");
+    assert!(rt; files.replace(alloc, 5, &long) == Ok(()));
+    assert!(rt; Files::<Outside>::failures(&files) == 0);
+    let read = files.read(alloc, 5).expect(&rt, "an answer");
+    assert!(rt; read.expect(&rt, "a file") == long);
+}
+
+const LARGE_AND_SMALL: &[(&str, Made)] = &[("5", Made::Long(16 << 20)), ("6", Made::File(b"six"))];
+
+const REMOVED: &[(Call, Answer)] = &[
+    (Call::Remove(5), Answer::Done),
+    (Call::Remove(6), Answer::Done),
+    (Call::Read(5), Answer::Bytes(None)),
+    (Call::Read(6), Answer::Bytes(None)),
+];
+
+// Another one is removed when the journal is emptied.
+#[test]
+fn a_large_file_goes_at_once(rt: HostRuntime) {
+    let folder = folder_of(&rt, "journal-large", LARGE_AND_SMALL).expect(&rt, "a folder");
+    let mut files = opened(&rt, &folder).expect(&rt, "files");
+    assert!(rt; gives_all(&mut files, rt.alloc(), REMOVED));
+    assert!(rt; has(&rt, &folder, "5") == Some(false) && has(&rt, &folder, "6") == Some(true));
+    fs::remove_dir_all(&rt, folder.as_path()).expect(&rt, "a folder");
 }
 
 #[test]

@@ -1,8 +1,8 @@
 //! The kinds of files that an overlay stands on: in memory, in a folder, and failing ones.
-use crate::folders::{Made, folder_of};
+use crate::folders::{Made, folder_of, has};
 use eden_model::Outside;
 use eden_overlay::{FailingFiles, Files, FilesFault, FolderFiles, MemoryFiles, StopFiles};
-use eden_overlay_format::Head;
+use eden_overlay_format::{Head, Identifier};
 use std::alloc::Global;
 use std::cell::Cell;
 use std::fs;
@@ -20,6 +20,7 @@ pub enum Call {
     Part(u64, u64, u64),
     Replace(u64, &'static [u8]),
     ReplaceJoined(u64, &'static [u8], &'static [u8]),
+    ReplaceBody(u64, Identifier, &'static [u8]),
     Remove(u64),
     Sync,
     List,
@@ -28,7 +29,7 @@ pub enum Call {
 #[derive(Clone, Copy)]
 pub enum Answer {
     Bytes(Option<&'static [u8]>),
-    // The first 64 bytes, of a file that has as many, and its length.
+    // The first 64 bytes or more, of a file that has as many, and its length.
     Head(Option<(&'static [u8], u64)>),
     Done,
     Numbers(&'static [u64]),
@@ -46,6 +47,9 @@ fn gives<F: Files<Outside>>(files: &mut F, alloc: Global, call: Call, want: Answ
         Call::Replace(number, bytes) => is_done(files.replace(alloc, number, bytes), want),
         Call::ReplaceJoined(number, front, behind) => {
             is_done(files.replace_joined(alloc, number, front, behind), want)
+        }
+        Call::ReplaceBody(number, identifier, body) => {
+            is_done(files.replace_body(alloc, number, identifier, body), want)
         }
         Call::Remove(number) => is_done(files.remove(number), want),
         Call::Sync => is_done(files.sync(alloc), want),
@@ -66,7 +70,7 @@ fn is_head(answer: Result<Option<Head>, FilesFault>, want: Answer) -> bool {
     match (answer, want) {
         (Ok(None), Answer::Head(want)) => want.is_none(),
         (Ok(Some(head)), Answer::Head(Some((first, len)))) => {
-            head.len == len && (len < 64 || head.first.as_slice() == first)
+            head.len == len && (len < 64 || first.starts_with(head.first.as_slice()))
         }
         (Err(FilesFault::Device), Answer::Device) => true,
         _ => false,
@@ -119,6 +123,12 @@ pub fn gives_all_but_lists<F: Files<Outside>>(
 
 pub const SIXTY_FOUR: &[u8] = b"0123456789abcdef0123456789abcdef0123456789abcdef0123456789abcdef";
 
+// The directory with no entry as it is stored: its header has the length and the SHA-1 of four zeros.
+const NO_ENTRY: &[u8] = b"OVDR\x00\x00\x00\x02\x00\x00\x00\x00\x00\x00\x00\x04\
+    \x90\x69\xca\x78\xe7\x45\x0a\x28\x51\x73\x43\x1b\x3e\x52\xc5\xc2\x52\x99\xe4\x73\
+    \x00\x00\x00\x00\x00\x00\x00\x00\x00\x00\x00\x00\x00\x00\x00\x00\x00\x00\x00\x00\x00\x00\x00\x00\x00\x00\x00\x00\
+    \x00\x00\x00\x00";
+
 pub const SIXTY_SIX: &[u8] = b"0123456789abcdef0123456789abcdef0123456789abcdef0123456789abcdef..";
 
 // What every kind of files answers that is empty at first.
@@ -160,6 +170,14 @@ pub const BEHAVIOUR: &[(Call, Answer)] = &[
     (Call::ReplaceJoined(10, SIXTY_FOUR, b".."), Answer::Done),
     (Call::Part(10, 63, 2), Answer::Bytes(Some(b"f."))),
     (Call::Read(10), Answer::Bytes(Some(SIXTY_SIX))),
+    (
+        Call::ReplaceBody(10, Identifier::Directory, &[0; 4]),
+        Answer::Done,
+    ),
+    (Call::Head(10), Answer::Head(Some((NO_ENTRY, 68)))),
+    (Call::Part(10, 2, 6), Answer::Bytes(Some(b"DR\0\0\0\x02"))),
+    (Call::Part(10, 64, 9), Answer::Bytes(Some(&[0; 4]))),
+    (Call::Read(10), Answer::Bytes(Some(NO_ENTRY))),
     (Call::Replace(u64::MAX, b"\0\xff"), Answer::Done),
     (Call::Replace(0, b"zero"), Answer::Done),
     (Call::List, Answer::Numbers(&[0, 2, 10, u64::MAX])),
@@ -308,13 +326,12 @@ const LEFT_OVER: &[(Call, Answer)] = &[
 ];
 
 #[test]
-fn what_a_failure_left_is_no_file(rt: HostRuntime) {
+fn what_a_kill_left_is_no_file(rt: HostRuntime) {
     let table = [("5.new", Made::File(b"left over"))];
     let folder = folder_of(&rt, "overlay-left", &table).expect(&rt, "a file");
     let asked = folder.clone().expect(&rt, "memory");
     assert!(rt; failures_of(&rt, asked, LEFT_OVER).is_some());
-    let new = folder.join(rt.alloc(), "5.new").expect(&rt, "memory");
-    assert!(rt; !fs::exists(&rt, new.as_path()).expect(&rt, "an answer"));
+    assert!(rt; has(&rt, &folder, "5.new") == Some(false));
     fs::remove_dir_all(&rt, folder.as_path()).expect(&rt, "a folder");
 }
 
@@ -404,6 +421,7 @@ fn a_failing_device_is_told_and_counted(rt: HostRuntime) {
     for (call, ask) in FAILED {
         assert!(rt; is_told(&rt, folder.clone().expect(&rt, "memory"), call, ask));
         assert!(rt; holds(&mut sound, rt.alloc(), b"old"));
+        assert!(rt; has(&rt, &folder, "5.new") == Some(false));
     }
     fs::remove_dir_all(&rt, folder.as_path()).expect(&rt, "a folder");
 }

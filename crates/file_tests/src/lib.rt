@@ -3,6 +3,8 @@
 #![tactic(auto)]
 
 #[cfg(test)]
+mod changed;
+#[cfg(test)]
 mod files;
 #[cfg(test)]
 mod folders;
@@ -12,6 +14,8 @@ mod formats;
 mod journals;
 #[cfg(test)]
 mod kinds;
+#[cfg(test)]
+mod marks;
 #[cfg(test)]
 mod numbers;
 #[cfg(test)]

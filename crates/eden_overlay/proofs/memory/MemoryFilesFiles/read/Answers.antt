@@ -1,12 +1,12 @@
-use Rattle.std.proofs.Common.{◌∙◌, ℕ, List, Option, Vec, sym, ap}
+use Rattle.std.proofs.Common.{◌∙◌, ℕ, List, Option, sym, ap}
 use Rattle.std.specs.Option.{option_map}
-use Rattle.std.specs.declared.alloc.Global.{Global}
-use Rattle.eden_overlay.specs.InMemory.{stored_in}
+use Rattle.eden_overlay.specs.declared.memory.FileBytes.{FileBytes}
+use Rattle.eden_overlay.specs.InMemory.{bytes_in_memory, stored_in}
 use Rattle.eden_overlay.proofs.Held.{stored_in-files_of}
 use Rattle.eden_overlay.proofs.memory.MemoryFilesFiles.read.Goals as goal
 
 pub returns-clause-found : goal.returns-clause-found
 returns-clause-found g c = λ honest.
-    let items : Option (Vec ℕ Global) → Option (List ℕ) = λ o. option_map (λ v. v.items) o in
+    let items : Option FileBytes → Option (List ℕ) = λ o. option_map bytes_in_memory o in
     let at : List (ℕ × List ℕ) → Option (List ℕ) = λ files. stored_in files c.args.number in
     c.in_ok-copied.ensures ∙ ap items c.get.ensures.value ∙ sym (stored_in-files_of c.self.inside.files.entries c.args.number) ∙ ap at c.self.view_is
