@@ -15,6 +15,9 @@ const EAGAIN: i32 = 11;
 /// The folder is unmounted.
 const ENODEV: i32 = 19;
 
+/// The folder is unmounted, while a message was on its way.
+const ECONNABORTED: i32 = 103;
+
 /// Standard input, of which each read gives one whole message. No contract knows its messages.
 #[derive(Drop)]
 pub struct KernelInput {
@@ -37,7 +40,7 @@ impl Receiver for KernelInput {
             Ok(0) => Received::End,
             Ok(len) => Received::Message(len),
             Err(error) => match error.raw_os_error() {
-                Some(ENODEV) => Received::End,
+                Some(ENODEV | ECONNABORTED) => Received::End,
                 Some(ENOENT | EINTR | EAGAIN) => Received::Nothing,
                 _ => Received::Failed,
             },
