@@ -11,7 +11,7 @@ ghost use Rattle.eden_ops.specs.Trails.{MayGoOn};
 use crate::checkout::Checkout;
 use eden_cache::Stock;
 use eden_inode::{Inodes, place_laws};
-use eden_model::{Attempt, Key, Path, Request, World};
+use eden_model::{Attempt, Key, Obstacle, Path, Request, World};
 use eden_mount::Attempts;
 use eden_object::Object;
 use eden_ops::{Place, attempt_from, keeps_laws, need_laws};
@@ -59,6 +59,10 @@ impl<A: Allocator + Clone, W: World, F: Files<W>> Attempts<W> for Checkout<A, W,
     fn unload(&mut self, alloc: Global, path: &Path, older_than: u64) -> u64 {
         place_laws::<W, F>();
         self.inodes.unload(alloc, path.as_slice(), older_than).count
+    }
+
+    fn obstacle(&self) -> Option<Obstacle> {
+        self.inodes.obstacle()
     }
 
     fn sync(&mut self, alloc: Global) -> bool {

@@ -2,7 +2,7 @@ ghost use Rattle.std.specs.Prelude.{◌≡◌, MatchResult};
 ghost use Rattle.eden_shared.specs.Calls.{Gives, IsLawful};
 
 use eden_history::History;
-use eden_model::{CallFault, Path, Request, World};
+use eden_model::{CallFault, Obstacle, Path, Request, World};
 use eden_mount::Attempts;
 use eden_shared::{Answered, Naming, Pass, Shared};
 use eden_source::Source;
@@ -26,6 +26,9 @@ pub(crate) trait Asking<W: World, J: Naming> {
     /// Lets go of the loaded directories at and below the path that weren't used for so many turns. How many went.
     fn let_go<R: Wait>(&self, rt: &R, path: &Path, older_than: u64) -> u64;
 
+    /// What kept the device from storing when it was to store last, whoever asked for that.
+    fn obstacle<R: Wait>(&self, rt: &R) -> Option<Obstacle>;
+
     /// Waits until a loss of power would take nothing that was replied to. False where that isn't known.
     fn sync<R: Wait>(&self, rt: &R) -> bool;
 }
@@ -46,6 +49,10 @@ impl<W: World, T: Attempts<W> + Drop, A: Allocator, J: Naming, H: History> Askin
         self.unload(rt, path, older_than)
     }
 
+    fn obstacle<R: Wait>(&self, rt: &R) -> Option<Obstacle> {
+        self.obstacle(rt)
+    }
+
     fn sync<R: Wait>(&self, rt: &R) -> bool {
         self.sync(rt)
     }
@@ -64,6 +71,10 @@ impl<W: World, J: Naming, C: Asking<W, J>> Asking<W, J> for &C {
 
     fn let_go<R: Wait>(&self, rt: &R, path: &Path, older_than: u64) -> u64 {
         (**self).let_go(rt, path, older_than)
+    }
+
+    fn obstacle<R: Wait>(&self, rt: &R) -> Option<Obstacle> {
+        (**self).obstacle(rt)
     }
 
     fn sync<R: Wait>(&self, rt: &R) -> bool {

@@ -4,8 +4,8 @@ ghost use Rattle.eden_fuse_host.specs.Turns.{IsOf};
 
 use crate::asking::Asking;
 use crate::begun::Begun;
-use eden_fuse_shown::{Mount, Unheard};
-use eden_model::{Reply, Request, World};
+use eden_fuse_shown::{Mount, Unheard, may_store, unstored};
+use eden_model::{Fault, Reply, Request, World};
 use eden_shared::{Naming, Pass};
 use eden_source::Source;
 use std::marker::{Model, PhantomData};
@@ -95,12 +95,16 @@ impl<
     ghost syncs = { PassSyncs };
 
     fn ask(&mut self, request: Request) -> Result<Reply, Unheard> {
+        let stores = may_store(&request);
         match self
             .shared
             .ask(&self.rt, &mut self.pass, &mut self.source, request)
         {
             Err(fault) => Err(Unheard::Fault(fault)),
-            Ok(answer) => Ok(answer.reply),
+            Ok(answer) => match answer.reply {
+                Reply::Fault(Fault::Overlay) if stores => unstored(self.shared.obstacle(&self.rt)),
+                reply => Ok(reply),
+            },
         }
     }
 

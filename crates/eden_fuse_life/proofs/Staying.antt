@@ -64,6 +64,7 @@ module _ {S : Type 0} (fetched : S → Id → Answer → S → Type 0) {T : Type
   heard_keeps : (d e : Desk T S) (q : Request) (r : Result Reply Unheard) → Hears answers d q r e → Kept d e
   heard_keeps d e q (Ok reply) called = called.1.stays
   heard_keeps d e q (Err (unheard.Fault fault)) called = kept_same d e called.2.1
+  heard_keeps d e q (Err (unheard.Blocked obstacle)) called = called.1.stays
   heard_keeps d e q (Err unheard.Memory) (reply, called) = called.1.stays
 
   leads_keep : (replies : List Reply) (step : Step) (d e : Desk T S) (r : Result Outcome Unheard) → Leads answers step replies d r e → Kept d e

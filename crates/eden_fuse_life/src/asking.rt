@@ -1,9 +1,9 @@
 //! A mount that a folder's session asks.
 ghost use Rattle.std.specs.Prelude.{◌≡◌};
 
-use eden_fuse_shown::{Mount, Unheard};
+use eden_fuse_shown::{Mount, Unheard, may_store, unstored};
 use eden_history::History;
-use eden_model::{CallFault, Reply, Request, World};
+use eden_model::{CallFault, Fault, Reply, Request, World};
 use eden_mount::{Attempts, Local};
 use eden_source::Source;
 use std::alloc::{Allocator, Global};
@@ -60,11 +60,15 @@ impl<W: World, S: Source<W> + Drop, T: Attempts<W> + Drop, A: Allocator, H: Hist
     ghost syncs = { SyncsDesk T.table W.honest };
 
     fn ask(&mut self, request: Request) -> Result<Reply, Unheard> {
+        let stores = may_store(&request);
         match self.local.serve(request) {
             Err(fault) => Err(Unheard::Fault(CallFault::Start(fault))),
-            Ok(()) => match self.local.reply().copy(self.alloc) {
-                Err(_) => Err(Unheard::Memory),
-                Ok(reply) => Ok(reply),
+            Ok(()) => match self.local.reply() {
+                Reply::Fault(Fault::Overlay) if stores => unstored(self.local.obstacle()),
+                reply => match reply.copy(self.alloc) {
+                    Err(_) => Err(Unheard::Memory),
+                    Ok(reply) => Ok(reply),
+                },
             },
         }
     }

@@ -7,6 +7,7 @@ use Rattle.std.proofs.lemmas.List.{drop-drop}
 use Rattle.std.specs.Option.{is_some}
 use Rattle.eden_model.specs.declared.node.Node.{Node}
 use Rattle.eden_model.specs.declared.node.Node.TheVariants.{File}
+use Rattle.eden_model.specs.declared.fault.Fault.TheVariants as fault
 use Rattle.eden_model.specs.declared.reply.Reply.{Reply}
 use Rattle.eden_model.specs.declared.reply.Reply.TheVariants as say
 use Rattle.eden_model.specs.declared.request.Request.{Request}
@@ -91,6 +92,7 @@ module _ {S : Type 0} (answers : Replying S) (tree : S → Tree) (follows : Foll
 
   unheard_same : (from count : ℕ) (s t : S) (why : Unheard) → Hears answers s (what from count) (Err why) t → tree t ≡ tree s
   unheard_same from count s t (unheard.Fault f) heard = follows s (what from count) (Err f) t heard
+  unheard_same from count s t (unheard.Blocked o) heard = replied_same from count (say.Fault fault.Overlay) s t heard
   unheard_same from count s t unheard.Memory heard = replied_same from count heard.0 s t heard.1
 
   by_reply : (from count : ℕ) (r : Reply) (replies : List Reply) (s u t : S) (part : Option (List ℕ)) (end : Result Outcome Unheard)

@@ -1,11 +1,12 @@
 -- What a store leaves of what is seen.
 use Rattle.std.proofs.Common.{◌≡◌, ◌⊎◌, ℕ, Bool, true, false, List, [], ◌∷◌, Option, Some, Result, Ok, Err, inl, inr, refl, sym, ap, subst, ◌∙◌}
 use Rattle.std.proofs.lemmas.Bool.{false≢true}
+use Rattle.eden_model.specs.declared.fault.Fault.TheVariants as fault
 use Rattle.eden_model.specs.declared.reply.Reply.{Reply}
 use Rattle.eden_model.specs.declared.reply.Reply.TheVariants as say
 use Rattle.eden_model.specs.declared.request.Request.{Request}
 use Rattle.eden_model.specs.declared.request.Request.TheVariants as ask
-use Rattle.eden_model.specs.Faults.{errno_number}
+use Rattle.eden_model.specs.Faults.{errno_number, obstacle_number}
 use Rattle.eden_model.specs.Operations.{after, done}
 use Rattle.eden_model.specs.Trees.{Path, Tree}
 use Rattle.eden_fuse_nodes.specs.declared.way.Whereabouts.{Whereabouts}
@@ -76,6 +77,9 @@ module _ {S : Type 0} (answers : Replying S) (tree : S → Tree) (follows : Foll
       → end ≡ Err u → why ≡ unstored end → Made s why t
   unheard_made p s t why end (unheard.Fault f) lies heard ends is =
       inl (follows s (what p) (Err f) t heard, (5, is ∙ ap (λ (x : Result Outcome Unheard). unstored x) ends))
+  unheard_made p s t why end (unheard.Blocked o) lies heard ends is =
+      made p (say.Fault fault.Overlay) s t why (obstacle_number o) lies (follows s (what p) (Ok (say.Fault fault.Overlay)) t heard)
+      (is ∙ ap (λ (x : Result Outcome Unheard). unstored x) ends)
   unheard_made p s t why end unheard.Memory lies heard ends is =
       made p heard.0 s t why 12 lies (follows s (what p) (Ok heard.0) t heard.1) (is ∙ ap (λ (x : Result Outcome Unheard). unstored x) ends)
 

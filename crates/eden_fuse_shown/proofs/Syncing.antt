@@ -3,10 +3,12 @@ use Rattle.std.proofs.Common.{◌≡◌, ℕ, Bool, true, false, List, [], ◌�
 use Rattle.std.proofs.lemmas.Bool.{false≢true}
 use Rattle.eden_model.specs.declared.errno.Errno.{Errno}
 use Rattle.eden_model.specs.declared.errno.Errno.TheVariants as errno
+use Rattle.eden_model.specs.declared.obstacle.Obstacle.{Obstacle}
+use Rattle.eden_model.specs.declared.obstacle.Obstacle.TheVariants as obstacle
 use Rattle.eden_model.specs.declared.reply.Reply.{Reply}
 use Rattle.eden_model.specs.declared.reply.Reply.TheVariants as say
 use Rattle.eden_model.specs.ChangeLaws.{DataIsWritten, OldBytesStay, WrittenLength}
-use Rattle.eden_model.specs.Faults.{errno_number}
+use Rattle.eden_model.specs.Faults.{errno_number, obstacle_number}
 use Rattle.eden_model.specs.Trees.{Path, Tree}
 use Rattle.eden_fuse_nodes.specs.declared.way.Whereabouts.{Whereabouts}
 use Rattle.eden_fuse_nodes.specs.declared.way.Whereabouts.TheVariants.{At, TooFar, Nowhere}
@@ -54,8 +56,15 @@ of_error errno.ENAMETOOLONG = refl
 of_error errno.ENOTEMPTY = refl
 of_error errno.EPROTO = refl
 
+of_obstacle : (o : Obstacle) → is_errno (Some (obstacle_number o)) ≡ true
+of_obstacle obstacle.NoSpace = refl
+of_obstacle obstacle.OverQuota = refl
+of_obstacle obstacle.TooLarge = refl
+of_obstacle obstacle.ReadOnly = refl
+
 of_unheard : (u : Unheard) → is_errno (unstored (Err u)) ≡ true
 of_unheard (unheard.Fault f) = refl
+of_unheard (unheard.Blocked o) = of_obstacle o
 of_unheard unheard.Memory = refl
 
 of_outcome : (r end : Result Outcome Unheard) → end ≡ r → is_errno (unstored r) ≡ true → is_errno (unstored end) ≡ true

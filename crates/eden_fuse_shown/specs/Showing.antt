@@ -4,6 +4,7 @@ use Rattle.std.specs.Prelude.{◌≡◌, ◌⊎◌, ℕ, zero, suc, ◌/◌, ◌
 use Rattle.std.specs.Prelude.{Result, Ok, Err, if◌then◌else◌}
 use Rattle.std.specs.List.{slice_get}
 use Rattle.eden_model.specs.declared.request.Request.TheVariants as ask
+use Rattle.eden_model.specs.Faults.{obstacle_number}
 use Rattle.eden_model.specs.Trees.{Name, Path}
 use Rattle.eden_fuse_format.specs.declared.answer.Answer.{Answer}
 use Rattle.eden_fuse_format.specs.declared.answer.Answer.TheVariants as answer
@@ -67,9 +68,10 @@ say a = Some (error_of a, body_text a)
 abbrev pub refuse : ℕ → Told
 refuse errno = say (answer.Refused errno)
 
--- EIO (5) for a fault of the mount, ENOMEM (12) for want of memory
+-- EIO (5) for a fault of the mount, the obstacle's own where one is known, ENOMEM (12) for want of memory
 abbrev pub errno_of : Unheard → ℕ
 errno_of (unheard.Fault fault) = 5
+errno_of (unheard.Blocked obstacle) = obstacle_number obstacle
 errno_of unheard.Memory = 12
 
 -- bytes whose length can be told

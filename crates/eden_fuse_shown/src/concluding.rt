@@ -83,6 +83,7 @@ pub(crate) fn errno_of(why: Unheard) -> u32
 {
     match why {
         Unheard::Fault(_) => EIO,
+        Unheard::Blocked(obstacle) => obstacle.number(),
         Unheard::Memory => ENOMEM,
     }
 }

@@ -40,7 +40,7 @@ mod times;
 pub use extents::{Extent, Extents, Gap};
 pub use laws::seeing_laws;
 pub use manner::Manner;
-pub use mount::{Mount, Unheard};
+pub use mount::{Mount, Unheard, may_store, unstored};
 pub use opens::Opens;
 pub use pages::{Page, Pages};
 pub use shown::Shown;

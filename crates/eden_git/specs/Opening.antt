@@ -9,6 +9,7 @@ abbrev pub fault_of : FolderFault → GitFault
 fault_of folder.Missing = fault.Missing
 fault_of folder.NotPlain = fault.Device
 fault_of folder.TooLong = fault.Device
+fault_of (folder.Blocked o) = fault.Device
 fault_of folder.Device = fault.Device
 fault_of folder.Memory = fault.Memory
 
@@ -17,5 +18,6 @@ abbrev pub IsDamage : FolderFault → Type 0
 IsDamage folder.Missing = ⊥
 IsDamage folder.NotPlain = Unit {0}
 IsDamage folder.TooLong = Unit {0}
+IsDamage (folder.Blocked o) = Unit {0}
 IsDamage folder.Device = Unit {0}
 IsDamage folder.Memory = ⊥

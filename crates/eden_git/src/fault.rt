@@ -37,7 +37,10 @@ impl From<FolderFault> for GitFault {
     fn from(fault: FolderFault) -> GitFault {
         match fault {
             FolderFault::Missing => GitFault::Missing,
-            FolderFault::NotPlain | FolderFault::TooLong | FolderFault::Device => GitFault::Device,
+            FolderFault::NotPlain
+            | FolderFault::TooLong
+            | FolderFault::Blocked(_)
+            | FolderFault::Device => GitFault::Device,
             FolderFault::Memory => GitFault::Memory,
         }
     }

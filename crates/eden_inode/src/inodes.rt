@@ -36,7 +36,7 @@ use crate::seen::Seen;
 use crate::trail::Trail;
 use crate::unload::Unloading;
 use eden_coupling::{kept_laws, number_kept_laws, number_save_laws, shown_laws};
-use eden_model::{Fault, Key, Kind, MAX_NAMES, Name, ObjKind, Origin, TreeEntry, World};
+use eden_model::{Fault, Key, Kind, MAX_NAMES, Name, ObjKind, Obstacle, Origin, TreeEntry, World};
 use eden_overlay::{Content, Files, FilesFault, Overlay};
 use eden_tree::{Change, Dir, Entry};
 use std::alloc::{Allocator, Global};
@@ -123,6 +123,11 @@ impl<A: Allocator + Clone, W: World, F: Files<W>> Inodes<A, W, F> {
         ensures { result ≡ F.failures self.now.files }
     {
         self.overlay.failures()
+    }
+
+    /// What kept the device from storing when it was to store last; None where it stored, or didn't say.
+    pub fn obstacle(&self) -> Option<Obstacle> {
+        self.overlay.obstacle()
     }
 
     /// Where a directory that isn't loaded comes from: None for every other path.

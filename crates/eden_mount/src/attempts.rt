@@ -1,4 +1,4 @@
-use eden_model::{Attempt, Key, Path, Request, World};
+use eden_model::{Attempt, Key, Obstacle, Path, Request, World};
 use eden_object::Object;
 use std::alloc::Global;
 
@@ -53,6 +53,10 @@ pub trait Attempts<W: World> {
     fn unload(&mut self, alloc: Global, path: &Path, older_than: u64) -> u64
         ensures unloads { Unloads table W.honest self.old path.now older_than result self.new }
         ensures places { LeadStill leads self.old self.new };
+
+    /// What kept the device from storing when it was to store last; None where it stored, or didn't say. Contracts
+    /// promise nothing of it.
+    fn obstacle(&self) -> Option<Obstacle>;
 
     /// Waits until a loss of power would take nothing of what is stored. False where the device failed, or where there
     /// was no memory: then that isn't known.

@@ -13,7 +13,7 @@ use crate::events::Turned;
 use crate::mount::Mount;
 use crate::unloading::Unloading;
 use eden_history::{History, Kept};
-use eden_model::{Entry, Fault, Key, Path, Reply, Request, StartFault, World};
+use eden_model::{Entry, Fault, Key, Obstacle, Path, Reply, Request, StartFault, World};
 use eden_source::Source;
 use std::alloc::{Allocator, Global};
 use std::marker::Model;
@@ -230,6 +230,11 @@ impl<W: World, S: Source<W> + Drop, T: Attempts<W> + Drop, A: Allocator, H: Hist
             Err(fault) => Err(fault),
             Ok(()) => Ok(self.reply()),
         }
+    }
+
+    /// What kept the device from storing when it was to store last; None where it stored, or didn't say.
+    pub fn obstacle(&self) -> Option<Obstacle> {
+        self.mount.obstacle()
     }
 
     /// Waits until a loss of power would take nothing of what the table stored. False where that isn't known. The last

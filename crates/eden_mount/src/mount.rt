@@ -24,7 +24,7 @@ use crate::seats::{Pending, count, occupy, request_at, vacate};
 use crate::settling::{Settled, resume};
 use eden_history::{History, Kept};
 use eden_import::Imports;
-use eden_model::{Cause, Entry, Key, Path, Request, StartFault, World, backing_laws};
+use eden_model::{Cause, Entry, Key, Obstacle, Path, Request, StartFault, World, backing_laws};
 use std::alloc::{AllocError, Allocator, Global};
 use std::marker::{Model, PhantomData};
 
@@ -331,6 +331,11 @@ impl<W: World, T: Attempts<W> + Drop, A: Allocator, H: History> Mount<W, T, A, H
         ensures { LetsGo T.table W.honest self.old path.now older_than result self.new }
     {
         self.table.unload(self.alloc, path, older_than)
+    }
+
+    /// What kept the device from storing when it was to store last; None where it stored, or didn't say.
+    pub fn obstacle(&self) -> Option<Obstacle> {
+        self.table.obstacle()
     }
 
     /// Waits until a loss of power would take nothing of what the table stored. False where that isn't known.

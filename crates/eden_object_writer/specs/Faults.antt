@@ -25,5 +25,6 @@ abbrev pub of_file : FolderFault → ImportFault
 of_file file.Missing = fault.Device
 of_file file.NotPlain = fault.Kind
 of_file file.TooLong = fault.TooLarge
+of_file (file.Blocked o) = fault.Device
 of_file file.Device = fault.Device
 of_file file.Memory = fault.Memory

@@ -75,7 +75,9 @@ impl From<FolderFault> for ImportFault {
 
     fn from(fault: FolderFault) -> ImportFault {
         match fault {
-            FolderFault::Missing | FolderFault::Device => ImportFault::Device,
+            FolderFault::Missing | FolderFault::Blocked(_) | FolderFault::Device => {
+                ImportFault::Device
+            }
             FolderFault::NotPlain => ImportFault::Kind,
             FolderFault::TooLong => ImportFault::TooLarge,
             FolderFault::Memory => ImportFault::Memory,

@@ -19,5 +19,6 @@ abbrev pub of_folder : FolderFault → FilesFault
 of_folder folder.Missing = fault.Device
 of_folder folder.NotPlain = fault.Device
 of_folder folder.TooLong = fault.Device
+of_folder (folder.Blocked o) = fault.Device
 of_folder folder.Device = fault.Device
 of_folder folder.Memory = fault.Memory

@@ -3,7 +3,7 @@ ghost use Rattle.eden_model.specs.Failures.{one_more};
 ghost use Rattle.eden_overlay.specs.Getting.{files_fault_number};
 ghost use Rattle.eden_overlay.specs.declared.files.FilesFault.TheVariants as fault;
 
-use eden_model::World;
+use eden_model::{Obstacle, World};
 use eden_overlay_format::{Head, Identifier, header_of};
 use std::alloc::{AllocError, AllocFailed, Global};
 use thiserror::Error;
@@ -70,6 +70,10 @@ pub trait Files<W: World>: Drop {
     /// How often the device failed, up to 2^64 - 1.
     fn failures(&self) -> u64
         ensures { result ≡ failures self.now };
+
+    /// What kept the device from storing when it was to store last; None where it stored, or didn't say. Contracts
+    /// promise nothing of it.
+    fn obstacle(&self) -> Option<Obstacle>;
 
     /// The bytes of the file with that number, or None where there is none.
     fn read(&mut self, alloc: Global, number: u64) -> Result<Option<Vec<u8>>, FilesFault>

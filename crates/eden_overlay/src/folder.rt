@@ -12,7 +12,7 @@ use crate::names::{Sought, file_path, number_sought, rising, unfinished_path};
 use crate::overlay::STATE_NUMBER;
 use crate::tidy::Removed;
 use crate::unsynced::{Unsynced, lacking, sync_all, to_mark};
-use eden_model::Outside;
+use eden_model::{Obstacle, Outside};
 use eden_overlay_format::Head;
 use eden_plain_files::{
     FolderFault, Links, entry_in, read_file, read_front, read_part, remove_file, replace_file,
@@ -35,6 +35,8 @@ pub struct FolderFiles<R> {
     files: R,
     folder: PathBuf,
     failures: u64,
+    /// What kept the last file from being stored, where the system said so.
+    obstacle: Option<Obstacle>,
     unsynced: Unsynced,
 }
 
@@ -56,6 +58,7 @@ impl<R> FolderFiles<R> {
             files,
             folder,
             failures: 0,
+            obstacle: None,
             unsynced: Unsynced::anything(),
         }
     }
@@ -83,10 +86,12 @@ impl<R: rt::Files> FolderFiles<R> {
         ensures path { self.new.path ≡ self.old.path }
     {
         let (files, folder, unsynced) = (&self.files, &self.folder, &mut self.unsynced);
+        self.obstacle = None;
+        let obstacle = &mut self.obstacle;
         let answer = if number == STATE_NUMBER {
-            store_state(files, alloc, folder, pieces, unsynced)
+            store_state(files, alloc, folder, pieces, unsynced, obstacle)
         } else {
-            store_number(files, alloc, folder, number, pieces, unsynced)
+            store_number(files, alloc, folder, number, pieces, unsynced, obstacle)
         };
         self.failures = count_failures(self.failures, &answer);
         answer
@@ -103,6 +108,10 @@ impl<R: rt::Files + Alloc + Clone + Drop> Files<Outside> for FolderFiles<R> {
 
     fn failures(&self) -> u64 {
         self.failures
+    }
+
+    fn obstacle(&self) -> Option<Obstacle> {
+        self.obstacle
     }
 
     /// `Device` too where the name isn't a plain file's, or the file is over 2^30 + 64 bytes.
@@ -291,12 +300,13 @@ fn store_number<R: rt::Files>(
     number: u64,
     pieces: &[&[u8]],
     unsynced: &mut Unsynced,
+    obstacle: &mut Option<Obstacle>,
 ) -> Result<(), FilesFault> {
     if unsynced.has_old_mark() {
         mark::remove(files, folder)?;
         unsynced.unmarks();
     }
-    put_number(files, alloc, folder, number, pieces, unsynced)
+    put_number(files, alloc, folder, number, pieces, unsynced, obstacle)
 }
 
 // Stores the state, and a mark beside it of what the disk may lack. The one of before goes first, since a file system
@@ -307,17 +317,27 @@ fn store_state<R: rt::Files>(
     folder: &PathBuf,
     pieces: &[&[u8]],
     unsynced: &mut Unsynced,
+    obstacle: &mut Option<Obstacle>,
 ) -> Result<(), FilesFault> {
     let told = to_mark(files, alloc, folder, unsynced);
     mark::remove(files, folder)?;
     unsynced.unmarks();
-    put_number(files, alloc, folder, STATE_NUMBER, pieces, unsynced)?;
+    put_number(
+        files,
+        alloc,
+        folder,
+        STATE_NUMBER,
+        pieces,
+        unsynced,
+        obstacle,
+    )?;
     if let Some(numbers) = told {
         let _ = mark::write(files, alloc, folder, &numbers);
     }
     Ok(())
 }
 
+// Stores the file, or tells what keeps the device from that.
 fn put_number<R: rt::Files>(
     files: &R,
     alloc: Global,
@@ -325,11 +345,17 @@ fn put_number<R: rt::Files>(
     number: u64,
     pieces: &[&[u8]],
     unsynced: &mut Unsynced,
+    obstacle: &mut Option<Obstacle>,
 ) -> Result<(), FilesFault> {
     let durability = unsynced.replaces(alloc, number);
     let path = file_path(folder, number)?;
-    replace_file(files, alloc, path.as_str(), pieces, durability)?;
-    Ok(())
+    match replace_file(files, alloc, path.as_str(), pieces, durability) {
+        Ok(()) => Ok(()),
+        Err(fault) => {
+            *obstacle = fault.obstacle();
+            Err(FilesFault::from(fault))
+        }
+    }
 }
 
 // No memory of the program's own is taken: whatever the system refuses it for is the device's failure.

@@ -11,7 +11,7 @@ ghost use Rattle.eden_overlay.specs.Files.{IsHeadOf, Lists, part, put};
 ghost use Rattle.eden_overlay.specs.declared.files.FilesFault.TheVariants as fault;
 
 use crate::files::{Files, FilesFault, count_failures};
-use eden_model::World;
+use eden_model::{Obstacle, World};
 use eden_overlay_format::{Head, Identifier};
 use std::alloc::Global;
 use std::cell::Cell;
@@ -140,6 +140,10 @@ impl<W: World, F: Files<W>, G: Gate> Files<W> for GatedFiles<F, G> {
 
     fn failures(&self) -> u64 {
         self.failures
+    }
+
+    fn obstacle(&self) -> Option<Obstacle> {
+        self.files.obstacle()
     }
 
     fn read(&mut self, alloc: Global, number: u64) -> Result<Option<Vec<u8>>, FilesFault>

@@ -10,7 +10,7 @@ ghost use Rattle.eden_overlay.specs.InMemory.{bytes_in_memory, files_of, stored_
 
 use crate::files::{Files, FilesFault};
 use crate::part::part_of;
-use eden_model::World;
+use eden_model::{Obstacle, World};
 use eden_overlay_format::{HEADER_LEN, Head, Identifier, header_of};
 use std::alloc::{AllocError, Global};
 use std::collections::BTreeMap;
@@ -64,6 +64,10 @@ impl<W: World> Files<W> for MemoryFiles<W> {
 
     fn failures(&self) -> u64 {
         0
+    }
+
+    fn obstacle(&self) -> Option<Obstacle> {
+        None
     }
 
     fn read(&mut self, alloc: Global, number: u64) -> Result<Option<Vec<u8>>, FilesFault> {

@@ -30,7 +30,7 @@ use crate::files::{Files, FilesFault};
 use crate::part::part_of;
 use crate::recent::Recent;
 use crate::room::Room;
-use eden_model::{Id, World};
+use eden_model::{Id, Obstacle, World};
 use eden_overlay_format::{
     DecodeFault, HEADER_LEN, Head, Identifier, Listing, Refusal, Spliced, State, StoredEntry,
     content_len, decode_dir, decode_numbers, decode_state, encode_state, encode_unsealed_in,
@@ -110,6 +110,11 @@ impl<W: World, F: Files<W>> Overlay<W, F> {
         ensures { result ≡ F.failures self.now }
     {
         self.files.failures()
+    }
+
+    /// What kept the device from storing when it was to store last; None where it stored, or didn't say.
+    pub fn obstacle(&self) -> Option<Obstacle> {
+        self.files.obstacle()
     }
 
     /// Stores a content of at most 2^30 bytes as the file of that number, in place of any that was there. After an

@@ -8,7 +8,7 @@ use crate::log::Log;
 use crate::new_file::{LONGEST_DIRECTORY, LONGEST_RECORD};
 use crate::part::PART_LEN;
 use crate::record::{FRONT_LEN, Fields, Note, fields_in, is_whole, short_record, write_record};
-use eden_model::Outside;
+use eden_model::{Obstacle, Outside};
 use eden_overlay::{FilesFault, STATE_NUMBER};
 use eden_overlay_format::{HEADER_LEN, Head, Identifier, header_of};
 use eden_plain_files::{FolderFault, sync_names};
@@ -391,6 +391,10 @@ impl<R: Files + Clock + Drop> Journal<Outside> for FolderJournal<R> {
 
     fn is_full(&self) -> bool {
         self.log.end() > self.full_at
+    }
+
+    fn obstacle(&self) -> Option<Obstacle> {
+        self.log.obstacle()
     }
 
     fn put_off(&mut self) {

@@ -1,4 +1,4 @@
-use eden_model::World;
+use eden_model::{Obstacle, World};
 use eden_overlay::FilesFault;
 use eden_overlay_format::Head;
 use std::alloc::Global;
@@ -18,6 +18,10 @@ pub trait Journal<W: World>: Drop {
 
     /// Whether it has so much that it is to be emptied.
     fn is_full(&self) -> bool;
+
+    /// What kept the device from noting the last change; None where it noted it, or didn't say. Contracts promise
+    /// nothing of it.
+    fn obstacle(&self) -> Option<Obstacle>;
 
     /// It could not be emptied, and is full again once as much more was noted.
     fn put_off(&mut self)

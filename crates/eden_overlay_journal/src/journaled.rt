@@ -9,7 +9,7 @@ use crate::journal::Journal;
 use crate::new_file::NewFile;
 use crate::pouring::take_in;
 use crate::seen::{Standing, head, list, read, read_part, remove, replace, sync};
-use eden_model::World;
+use eden_model::{Obstacle, World};
 use eden_overlay::{Files, FilesFault, STATE_NUMBER, count_failures};
 use eden_overlay_format::{Head, Identifier, header_of};
 use std::alloc::Global;
@@ -24,6 +24,8 @@ pub struct Journaled<F, J> {
     journal: J,
     standing: Standing,
     failures: u64,
+    /// What kept the last change from being stored, where files or journal said so.
+    obstacle: Option<Obstacle>,
 }
 
 impl<F, J> Model for Journaled<F, J> {
@@ -48,6 +50,7 @@ impl<F, J> Journaled<F, J> {
                 is_promised: false,
             },
             failures: 0,
+            obstacle: None,
         }
     }
 
@@ -59,6 +62,14 @@ impl<F, J> Journaled<F, J> {
     {
         let Journaled { files, .. } = self;
         files
+    }
+}
+
+// What kept them from storing. The files come first: where the journal can note nothing, they are to store it.
+fn obstacle_of<W: World, F: Files<W>, J: Journal<W>>(files: &F, journal: &J) -> Option<Obstacle> {
+    match files.obstacle() {
+        Some(obstacle) => Some(obstacle),
+        None => journal.obstacle(),
     }
 }
 
@@ -83,6 +94,10 @@ impl<F, J> Journaled<F, J> {
         let standing = self.standing;
         let (files, journal) = (&mut self.files, &mut self.journal);
         let answer = replace::<W, _, _>(alloc, files, journal, standing, number, new);
+        self.obstacle = match answer {
+            Ok(()) => None,
+            Err(_) => obstacle_of::<W, _, _>(files, journal),
+        };
         self.failures = count_failures(self.failures, &answer);
         answer
     }
@@ -97,6 +112,10 @@ impl<W: World, F: Files<W>, J: Journal<W>> Files<W> for Journaled<F, J> {
 
     fn failures(&self) -> u64 {
         self.failures
+    }
+
+    fn obstacle(&self) -> Option<Obstacle> {
+        self.obstacle
     }
 
     fn read(&mut self, alloc: Global, number: u64) -> Result<Option<Vec<u8>>, FilesFault> {
@@ -158,6 +177,10 @@ impl<W: World, F: Files<W>, J: Journal<W>> Files<W> for Journaled<F, J> {
     fn remove(&mut self, number: u64) -> Result<(), FilesFault> {
         let (files, journal) = (&mut self.files, &mut self.journal);
         let answer = remove::<W, _, _>(files, journal, self.standing, number);
+        self.obstacle = match answer {
+            Ok(()) => None,
+            Err(_) => obstacle_of::<W, _, _>(files, journal),
+        };
         if number == STATE_NUMBER && answer.is_ok() {
             self.standing.is_closed = false;
         }
@@ -205,5 +228,6 @@ pub fn taken_in<W: World, F: Files<W>, J: Journal<W>>(
             is_promised: false,
         },
         failures: 0,
+        obstacle: None,
     })
 }

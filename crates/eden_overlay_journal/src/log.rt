@@ -1,7 +1,8 @@
 // A journal's file: records are written behind each other, and read where they lie.
-use eden_plain_files::{FolderFault, remove_file, sync_names};
+use eden_model::Obstacle;
+use eden_plain_files::{FolderFault, not_stored, remove_file, sync_names};
 use std::fs::{self, OpenFile, OpenOptions};
-use std::io::{ErrorKind, Read, Seek, SeekFrom, Write};
+use std::io::{self, ErrorKind, Read, Seek, SeekFrom, Write};
 use std::path::PathBuf;
 use std::rt::Files;
 
@@ -30,6 +31,8 @@ pub(crate) struct Log<R: Files> {
     is_torn: bool,
     /// What the disk is known to have.
     synced: Synced,
+    /// What kept the last record from being written, where the system said so.
+    obstacle: Option<Obstacle>,
 }
 
 impl<R: Files + Drop> Log<R> {
@@ -43,6 +46,7 @@ impl<R: Files + Drop> Log<R> {
             end: 0,
             is_torn: true,
             synced: Synced::Nothing,
+            obstacle: None,
         })
     }
 
@@ -53,6 +57,11 @@ impl<R: Files + Drop> Log<R> {
 
     pub(crate) fn end(&self) -> u64 {
         self.end
+    }
+
+    /// What kept the last record from being written; None where it was, or the system didn't say.
+    pub(crate) fn obstacle(&self) -> Option<Obstacle> {
+        self.obstacle
     }
 
     /// How many bytes lie behind those that are known to be whole.
@@ -70,12 +79,26 @@ impl<R: Files + Drop> Log<R> {
 
     /// Writes the record behind the others. What a failure left there is cut off first.
     pub(crate) fn append(&mut self, record: &[u8]) -> Result<(), FolderFault> {
+        match self.write_behind(record) {
+            Ok(()) => {
+                self.obstacle = None;
+                Ok(())
+            }
+            Err(error) => {
+                let fault = not_stored(error);
+                self.obstacle = fault.obstacle();
+                Err(fault)
+            }
+        }
+    }
+
+    fn write_behind(&mut self, record: &[u8]) -> io::Result<()> {
         if self.file.is_none() {
             self.file = Some(made(&self.files, &self.path)?);
             self.synced = Synced::Nothing;
         }
         let Some(file) = &mut self.file else {
-            return Err(FolderFault::Device);
+            return Err(io::Error::from(ErrorKind::NotFound));
         };
         if self.is_torn {
             file.set_len(self.end)?;
@@ -135,20 +158,19 @@ fn read_at<F: Read + Seek>(file: &mut F, at: u64, bytes: &mut [u8]) -> Result<()
     Ok(())
 }
 
-fn write_at<F: Write + Seek>(file: &mut F, at: u64, bytes: &[u8]) -> Result<(), FolderFault> {
+fn write_at<F: Write + Seek>(file: &mut F, at: u64, bytes: &[u8]) -> io::Result<()> {
     file.seek(SeekFrom::Start(at))?;
     file.write_all(bytes)?;
     Ok(())
 }
 
 // A new file at the path, where there is nothing.
-fn made<R: Files>(files: &R, path: &PathBuf) -> Result<R::File, FolderFault> {
-    let file = OpenOptions::new()
+fn made<R: Files>(files: &R, path: &PathBuf) -> io::Result<R::File> {
+    OpenOptions::new()
         .read(true)
         .write(true)
         .create_new(true)
-        .open(files, path.as_path())?;
-    Ok(file)
+        .open(files, path.as_path())
 }
 
 // The plain file at the path, if something is there. What is none is looked at and not opened.

@@ -7,7 +7,7 @@ ghost use Rattle.eden_overlay_format.specs.Stored.{written};
 ghost use Rattle.eden_overlay_format.specs.declared.header.Identifier.TheVariants as identifier;
 
 use crate::journal::Journal;
-use eden_model::World;
+use eden_model::{Obstacle, World};
 use eden_overlay::FilesFault;
 use eden_overlay_format::{HEADER_LEN, Head, Identifier, header_of};
 use std::alloc::{AllocError, Global};
@@ -42,6 +42,10 @@ impl<W: World> Journal<W> for MemoryJournal<W> {
 
     fn is_full(&self) -> bool {
         false
+    }
+
+    fn obstacle(&self) -> Option<Obstacle> {
+        None
     }
 
     fn put_off(&mut self) {}

@@ -1,8 +1,9 @@
 ghost use Rattle.std.specs.Prelude.{◌≡◌, ◌≢◌};
 ghost use Rattle.std.specs.IoError.{error_kind};
 ghost use Rattle.eden_plain_files.specs.declared.fault.FolderFault.TheVariants as fault;
-ghost use Rattle.eden_plain_files.specs.Faults.{IsFailure};
+ghost use Rattle.eden_plain_files.specs.Faults.{IsFailure, IsStoreFailure, obstacle_of};
 
+use eden_model::Obstacle;
 use std::alloc::{AllocError, AllocFailed};
 use std::io::{self, ErrorKind};
 use thiserror::Error;
@@ -19,12 +20,27 @@ pub enum FolderFault {
     /// The file is longer than the bound.
     #[error("the file is too long")]
     TooLong,
-    /// The device failed.
+    /// The device stored nothing, and said why.
+    #[error(transparent)]
+    Blocked(Obstacle),
+    /// The device failed in another way.
     #[error("the device failed")]
     Device,
     /// No memory.
     #[error("out of memory")]
     Memory,
+}
+
+impl FolderFault {
+    /// What keeps the device from storing, if that is the fault.
+    pub fn obstacle(self) -> Option<Obstacle>
+        ensures { result ≡ obstacle_of self }
+    {
+        match self {
+            FolderFault::Blocked(obstacle) => Some(obstacle),
+            _ => None,
+        }
+    }
 }
 
 impl From<AllocError> for FolderFault {
@@ -62,6 +78,19 @@ pub(crate) fn not_found(error: io::Error) -> FolderFault
 {
     match error.kind() {
         ErrorKind::NotFound => FolderFault::Missing,
+        _ => FolderFault::from(error),
+    }
+}
+
+/// The same, where it was to be stored: what keeps the device from that is told.
+pub fn not_stored(error: io::Error) -> FolderFault
+    ensures { IsStoreFailure error result }
+{
+    match error.kind() {
+        ErrorKind::StorageFull => FolderFault::Blocked(Obstacle::NoSpace),
+        ErrorKind::QuotaExceeded => FolderFault::Blocked(Obstacle::OverQuota),
+        ErrorKind::FileTooLarge => FolderFault::Blocked(Obstacle::TooLarge),
+        ErrorKind::ReadOnlyFilesystem => FolderFault::Blocked(Obstacle::ReadOnly),
         _ => FolderFault::from(error),
     }
 }

@@ -19,7 +19,7 @@ mod read;
 mod sync;
 mod write;
 
-pub use fault::FolderFault;
+pub use fault::{FolderFault, not_stored};
 pub use names::entry_in;
 pub use read::{Links, front_of, read_file, read_front, read_part, read_within};
 pub use sync::{sync_file, sync_names};

@@ -1,6 +1,6 @@
 ghost use Rattle.std.specs.Prelude.{◌≡◌, ◌++◌, IfOk, codes, string_bytes};
 
-use crate::fault::FolderFault;
+use crate::fault::{FolderFault, not_stored};
 use std::alloc::{AllocError, Global};
 use std::fs::{self, File, OpenFile};
 use std::io::{self, ErrorKind, Write};
@@ -19,8 +19,9 @@ pub enum Durability {
 /// there: they are written to `PATH.new`, which then takes the path's name.
 ///
 /// `PATH.new` is always a new file: one that is there, as a kill left it, is removed first, or a link or a pipe, and
-/// nothing is written to what it was. `Device` too where a folder is in the way. After an error the file at the path is
-/// what it was, and `PATH.new` is removed, as far as that can be: on a full disk it would keep what room there is.
+/// nothing is written to what it was. `Blocked` says what keeps the device from storing; `Device` comes too where a
+/// folder is in the way. After an error the file at the path is what it was, and `PATH.new` is removed, as far as that
+/// can be: on a full disk it would keep what room there is.
 pub fn replace_file<R: rt::Files>(
     files: &R,
     alloc: Global,
@@ -29,7 +30,7 @@ pub fn replace_file<R: rt::Files>(
     durability: Durability,
 ) -> Result<(), FolderFault> {
     let beside = beside(alloc, path)?;
-    let new = create_new(files, beside.as_str())?;
+    let new = create_new(files, beside.as_str()).map_err(not_stored)?;
     let answer = match fill(new, pieces, durability) {
         Ok(()) => fs::rename(files, beside.as_str(), path),
         failed => failed,
@@ -38,7 +39,7 @@ pub fn replace_file<R: rt::Files>(
         // What failed is told, whatever comes of this.
         let _ = fs::remove_file(files, beside.as_str());
     }
-    Ok(answer?)
+    answer.map_err(not_stored)
 }
 
 // Writes the pieces to the new file, and closes it.

@@ -19,7 +19,7 @@ use crate::gathered::have_each;
 use crate::lanes::{Answered, Begun, Finishes, Lane, Starts, change, look};
 use crate::pass::Pass;
 use eden_history::History;
-use eden_model::{CallFault, Cause, Key, Path, Request, StartFault, World};
+use eden_model::{CallFault, Cause, Key, Obstacle, Path, Request, StartFault, World};
 use eden_mount::{Arrived, Attempts, Mount, Turned};
 use std::alloc::Allocator;
 use std::marker::{Model, PhantomData};
@@ -201,6 +201,11 @@ impl<W: World, T: Attempts<W> + Drop, A: Allocator, J: Naming, H: History> Locke
     /// Lets go of loaded directories. How many went.
     pub(crate) fn unload(&mut self, path: &Path, older_than: u64) -> u64 {
         self.mount.unload(path, older_than)
+    }
+
+    /// What kept the device from storing when it was to store last.
+    pub(crate) fn obstacle(&self) -> Option<Obstacle> {
+        self.mount.obstacle()
     }
 
     /// Waits for the disk. False where it isn't known that all is there.

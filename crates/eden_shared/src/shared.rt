@@ -10,7 +10,7 @@ use crate::ends::Far;
 use crate::lanes::Answered;
 use crate::locked::Locked;
 use eden_history::History;
-use eden_model::{CallFault, Path, Request, World};
+use eden_model::{CallFault, Obstacle, Path, Request, World};
 use eden_mount::Attempts;
 use eden_source::Source;
 use std::alloc::{Allocator, Global};
@@ -113,6 +113,11 @@ impl<W: World, T: Attempts<W> + Drop, A: Allocator, J: Naming, H: History> Share
     /// Lets go of the loaded directories at and below the path that weren't used for so many turns. How many went.
     pub fn unload<R: Wait>(&self, rt: &R, path: &Path, older_than: u64) -> u64 {
         self.lock.lock(rt).unload(path, older_than)
+    }
+
+    /// What kept the device from storing when it was to store last; None where it stored, or didn't say.
+    pub fn obstacle<R: Wait>(&self, rt: &R) -> Option<Obstacle> {
+        self.lock.lock(rt).obstacle()
     }
 
     /// Waits until a loss of power would take nothing of what the mount stored, and holds the lock meanwhile. False

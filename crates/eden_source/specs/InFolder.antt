@@ -20,6 +20,7 @@ abbrev pub of_folder : FolderFault → Cause
 of_folder folder.Missing = cause.Missing
 of_folder folder.NotPlain = cause.Device
 of_folder folder.TooLong = cause.TooLarge
+of_folder (folder.Blocked o) = cause.Device
 of_folder folder.Device = cause.Device
 of_folder folder.Memory = cause.Memory
 

@@ -108,7 +108,7 @@ fn cause_of(fault: FolderFault) -> Cause
 {
     match fault {
         FolderFault::Missing => Cause::Missing,
-        FolderFault::NotPlain | FolderFault::Device => Cause::Device,
+        FolderFault::NotPlain | FolderFault::Blocked(_) | FolderFault::Device => Cause::Device,
         FolderFault::TooLong => Cause::TooLarge,
         FolderFault::Memory => Cause::Memory,
     }

@@ -3,7 +3,7 @@ use crate::folders::{Made, folder_of, has, make};
 use crate::kinds::{
     Answer, BEHAVIOUR, Call, SIXTY_FOUR, SIXTY_SIX, gives_all, gives_all_but_lists,
 };
-use eden_model::Outside;
+use eden_model::{Obstacle, Outside};
 use eden_overlay::{FailingFiles, Files, FilesFault, FolderFiles, MemoryFiles, StopFiles};
 use eden_overlay_format::Head;
 use eden_overlay_journal::{
@@ -428,6 +428,10 @@ impl Journal<Outside> for Roomless {
 
     fn is_full(&self) -> bool {
         false
+    }
+
+    fn obstacle(&self) -> Option<Obstacle> {
+        None
     }
 
     fn put_off(&mut self) {}

@@ -2,7 +2,7 @@
 ghost use Rattle.std.specs.Prelude.{◌≡◌, ◌≤◌, true};
 ghost use Rattle.eden_model.specs.Requests.{most_objects};
 
-use eden_model::{Attempt, Bytes, Key, Kind, Outside, Path, Reply, Request};
+use eden_model::{Attempt, Bytes, Key, Kind, Obstacle, Outside, Path, Reply, Request};
 use eden_mount::Attempts;
 use eden_object::Object;
 use std::alloc::Global;
@@ -109,6 +109,10 @@ impl Attempts<Outside> for Shelf {
     fn unload(&mut self, _alloc: Global, _path: &Path, _older_than: u64) -> u64 {
         self.unloads = self.unloads.saturating_add(1);
         UNLOADED
+    }
+
+    fn obstacle(&self) -> Option<Obstacle> {
+        None
     }
 
     fn sync(&mut self, _alloc: Global) -> bool {
