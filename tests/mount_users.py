@@ -5,6 +5,7 @@ import functools
 import os
 import pathlib
 import random
+import resource
 import shutil
 import signal
 import subprocess
@@ -247,10 +248,14 @@ def write_on(path: pathlib.Path, is_over: threading.Event) -> list[str]:
 
 DISK = 4 << 20
 PIECE = 300_000
+# More than the journal's last page has room for.
+MOST_CHANGES = 200
+LIMIT = 4 << 20
 
 
 def check_full_overlay(folder: pathlib.Path, repository: pathlib.Path) -> None:
-    """Where the overlay's disk is full, a close is EIO; what was closed before is there, and with room all goes on."""
+    """Where the overlay's disk is full, a close and a change are ENOSPC, as in a plain directory on it; what was closed
+    before is there, and with room all goes on."""
     data = random.Random(1).randbytes(PIECE)
     with small_disk(folder / "small", DISK) as disk:
         if disk is None:
@@ -260,9 +265,12 @@ def check_full_overlay(folder: pathlib.Path, repository: pathlib.Path) -> None:
         other.write_bytes(data)
         with MountGit(repository, "HEAD", folder / "mounted", "--overlay", disk / "overlay") as mount:
             told, stored = filled(mount.folder, data)
-            check("full: it is", (told, 0 < len(stored) < DISK // PIECE), ("EIO", True))
+            check("full: it is", (told, 0 < len(stored) < DISK // PIECE), ("ENOSPC", True))
             check("full: what was closed", {path.read_bytes() == data for path in stored}, {True})
-            check("full: a look at the commit", (mount.folder / "plain.txt").read_text(), "plain\n")
+            with filled_up(disk / "the rest"):
+                told = {tried((mount.folder / f"made {number}").mkdir) for number in range(MOST_CHANGES)}
+                check("full: changes, once the journal finds no room either", told - {None}, {"ENOSPC"})
+                check("full: a look at the commit", (mount.folder / "plain.txt").read_text(), "plain\n")
             # What couldn't be stored has no bytes, if there was room for its name.
             refused = mount.folder / f"large {len(stored)}"
             check("full: what couldn't be stored", tried(refused.read_bytes) in (b"", "ENOENT"), True)
@@ -276,6 +284,35 @@ def check_full_overlay(folder: pathlib.Path, repository: pathlib.Path) -> None:
             check("full: what is there", {path.read_bytes() == data for path in stored}, {True})
             check("full: what came after it", (mount.folder / "small").read_bytes(), b"small")
             check("full: the second end", (mount.end("SIGTERM"), mount.said()), (0, []))
+
+
+@contextlib.contextmanager
+def filled_up(path: pathlib.Path) -> Iterator[None]:
+    """A file that takes all the room of its disk."""
+    with open(path, "wb", buffering=0) as file, contextlib.suppress(OSError):
+        while True:
+            file.write(bytes(1 << 12))
+    try:
+        yield
+    finally:
+        path.unlink()
+
+
+def check_longest_file(folder: pathlib.Path, repository: pathlib.Path) -> None:
+    """Over the limit of mountd's user on a file's size a close is EFBIG, as in a plain directory; what is shorter is
+    stored, and the other with a higher limit."""
+    data = random.Random(2).randbytes(2 * LIMIT)
+    with MountGit(repository, "HEAD", folder / "mounted", "--overlay", folder / "overlay") as mount:
+        mountd, = mountd_of(mount)
+        _, hard = resource.prlimit(mountd, resource.RLIMIT_FSIZE)
+        resource.prlimit(mountd, resource.RLIMIT_FSIZE, (LIMIT, hard))
+        large, small = mount.folder / "large", mount.folder / "small"
+        check("limited: over it", tried(large.write_bytes, data), "EFBIG")
+        check("limited: within it", tried(small.write_bytes, data[:LIMIT // 2]), LIMIT // 2)
+        resource.prlimit(mountd, resource.RLIMIT_FSIZE, (hard, hard))
+        check("limited: with none", tried(large.write_bytes, data), len(data))
+        check("limited: what is there", (large.read_bytes() == data, small.stat().st_size), (True, LIMIT // 2))
+        check("limited: the end, with nothing said", (mount.end("SIGTERM"), mount.said()), (0, []))
 
 
 def filled(folder: pathlib.Path, data: bytes) -> tuple[object, list[pathlib.Path]]:

@@ -83,11 +83,12 @@ abbrev pub session_name : SessionFault → List ℕ
 session_name session.Receive = codes "Receive"
 session_name session.Memory = codes "Memory"
 
--- .. and of the error upon which what was written last wasn't stored: EIO (5), ENOMEM (12), ENAMETOOLONG (36), ESTALE (116)
+-- .. and of the error upon which what was written last wasn't stored, as Linux has it
 abbrev pub store_name : ℕ → List ℕ
 store_name errno =
-    if errno == 5 then codes "EIO" else if errno == 12 then codes "ENOMEM"
-    else if errno == 36 then codes "ENAMETOOLONG" else if errno == 116 then codes "ESTALE" else codes "Refused"
+    if errno == 5 then codes "EIO" else if errno == 12 then codes "ENOMEM" else if errno == 27 then codes "EFBIG"
+    else if errno == 28 then codes "ENOSPC" else if errno == 30 then codes "EROFS" else if errno == 36 then codes "ENAMETOOLONG"
+    else if errno == 116 then codes "ESTALE" else if errno == 122 then codes "EDQUOT" else codes "Refused"
 
 -- .. and of a server of objects; how it ended, by how its connections were taken and served
 abbrev pub server_status : Result ⊤ ServerFault → ℕ

@@ -34,9 +34,17 @@ const EIO: u32 = 5;
 
 const ENOMEM: u32 = 12;
 
+const EFBIG: u32 = 27;
+
+const ENOSPC: u32 = 28;
+
+const EROFS: u32 = 30;
+
 const ENAMETOOLONG: u32 = 36;
 
 const ESTALE: u32 = 116;
+
+const EDQUOT: u32 = 122;
 
 /// Tells why the arguments can't be read, as where they are not UTF-8. Status 2.
 pub fn arguments<R: Eprint>(rt: &R, error: &io::Error) -> ExitCode
@@ -134,16 +142,20 @@ fn session_ended<R: Eprint>(rt: &R, fault: SessionFault, unstored: Option<u32>) 
     }
 }
 
-// The name of the error upon which what was written last wasn't stored, if it is one that a mount gives for want of
-// room, of memory or of a path; else that it was refused.
+// The name of the error upon which what was written last wasn't stored, if it is one of a device that didn't store, or
+// of a mount that lacked memory or a path; else that it was refused.
 fn store_name(errno: u32) -> &'static str
     ensures { result.now ≡ store_name errno }
 {
     match errno {
         EIO => "EIO",
         ENOMEM => "ENOMEM",
+        EFBIG => "EFBIG",
+        ENOSPC => "ENOSPC",
+        EROFS => "EROFS",
         ENAMETOOLONG => "ENAMETOOLONG",
         ESTALE => "ESTALE",
+        EDQUOT => "EDQUOT",
         _ => "Refused",
     }
 }
