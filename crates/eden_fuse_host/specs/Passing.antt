@@ -3,6 +3,7 @@ use Rattle.std.specs.Prelude.{◌≡◌, ◌++◌, ℕ, Bool, List, [], ◌∷�
 use Rattle.std.specs.List.{AllByRecursion}
 use Rattle.eden_model.specs.declared.fault.CallFault.{CallFault}
 use Rattle.eden_model.specs.declared.fault.Fault.{Fault as Cause}
+use Rattle.eden_model.specs.declared.fault.Fault.TheVariants.{Overlay}
 use Rattle.eden_model.specs.declared.request.Request.{Request}
 use Rattle.eden_model.specs.declared.reply.Reply.{Reply}
 use Rattle.eden_model.specs.declared.reply.Reply.TheVariants.{Fault}
@@ -13,13 +14,20 @@ use Rattle.eden_shared.specs.declared.lanes.Answered.{Answered}
 use Rattle.eden_shared.specs.Accounts.{told}
 use Rattle.eden_shared.specs.Calls.{Gives, IsLawful}
 use Rattle.eden_shared.specs.Passes.{Carried}
+use Rattle.eden_fuse_shown.specs.declared.mount.Unheard.{Unheard}
 use Rattle.eden_fuse_shown.specs.Looking.{ChangesNothing}
+use Rattle.eden_fuse_shown.specs.Running.{IsUnstored}
 
 module _ (honest : Type 0) (opening : Tree) (numbers : Numbers) where
   -- the pass was told of one call more, and its reply is the mount's; or the request wasn't served, and the pass stays
   abbrev pub PassAnswers : Carried → Request → Result Reply CallFault → Carried → Type 0
   PassAnswers p q (Ok reply) p' = (a : Answered) × Gives honest opening numbers p q a p' × (reply ≡ a.reply)
   PassAnswers p q (Err fault) p' = IsLawful honest opening numbers p fault × (p' ≡ p)
+
+-- what is heard of a reply: it, or what kept the device from storing where it was that stored files failed
+abbrev pub IsHeardAs : Reply → Result Reply Unheard → Type 0
+IsHeardAs reply (Ok heard) = heard ≡ reply
+IsHeardAs reply (Err why) = (reply ≡ Fault Overlay) × IsUnstored (Err why)
 
 -- a pass is told nothing of a wait for the disk
 abbrev pub PassSyncs : Carried → Bool → Carried → Type 0

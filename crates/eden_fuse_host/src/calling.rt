@@ -1,5 +1,6 @@
 // A shared mount that a folder's turns ask.
 ghost use Rattle.std.specs.Prelude.{◌≡◌};
+ghost use Rattle.eden_fuse_host.specs.Passing.{IsHeardAs};
 ghost use Rattle.eden_fuse_host.specs.Turns.{IsOf};
 
 use crate::asking::Asking;
@@ -70,6 +71,16 @@ impl<
         }
     }
 
+    // What is heard of a reply to a request that may have something stored, or not.
+    fn heard(&self, reply: Reply, stores: bool) -> Result<Reply, Unheard>
+        ensures { IsHeardAs reply result }
+    {
+        match reply {
+            Reply::Fault(Fault::Overlay) if stores => unstored(self.shared.obstacle(&self.rt)),
+            reply => Ok(reply),
+        }
+    }
+
     /// Gives the pass back.
     pub(crate) fn into_pass(self) -> Pass<J>
         ensures same { result ≡ self }
@@ -101,10 +112,7 @@ impl<
             .ask(&self.rt, &mut self.pass, &mut self.source, request)
         {
             Err(fault) => Err(Unheard::Fault(fault)),
-            Ok(answer) => match answer.reply {
-                Reply::Fault(Fault::Overlay) if stores => unstored(self.shared.obstacle(&self.rt)),
-                reply => Ok(reply),
-            },
+            Ok(answer) => self.heard(answer.reply, stores),
         }
     }
 

@@ -1,9 +1,7 @@
-use Rattle.std.proofs.Common.{refl, sym}
+use Rattle.std.proofs.Common.{sym}
+use Rattle.eden_fuse_host.proofs.Heard.{told_heard}
 use Rattle.eden_fuse_host.proofs.calling.CallingMount.ask.Goals as goal
-use Rattle.eden_fuse_host.proofs.calling.CallingMount.ask.Goals.{in-Err, in-Ok}
 
-pub returns : goal.returns
-returns g c = elim c.match-ask.branch [
-  | in-Err w ↦ rw (w.result-is, sym c.self.view_is) w.in-Err.ensures
-  | in-Ok w ↦ rw (w.result-is, sym c.self.view_is) (w.in-Ok.answer, w.in-Ok.ensures, refl)
-]
+pub returns-in-Ok : goal.returns-in-Ok
+returns-in-Ok g c = rw (sym c.self.view_is) (told_heard g.W.World.honest g.W.World.opening g.W.World.numbers c.self.inside.pass
+    c.ask.new.pass c.args.request c.in-Ok.answer c.heard.result c.in-Ok.ensures c.heard.ensures)
