@@ -1,5 +1,5 @@
 -- The records of a journal's file.
-use Rattle.std.specs.Prelude.{ℕ, List, ◌++◌, ◌-◌, codes, drop, length, take}
+use Rattle.std.specs.Prelude.{◌≡◌, ◌≤◌, ◌+◌, ℕ, List, ◌++◌, ◌-◌, codes, drop, length, take}
 use Rattle.std.specs.Int.{w64, to_be_bytes}
 use Rattle.sha1.specs.Sha1.{sha1}
 use Rattle.eden_overlay_journal.specs.declared.change.Change.{Change}
@@ -50,6 +50,19 @@ part_bytes part = part_front part.before part.front part.back part.count ++ part
 abbrev pub with_change : Change → List ℕ → List ℕ
 with_change (change.One part) body = made_by part body
 with_change (change.Two first second) body = made_by second (made_by first body)
+
+-- where the record begins that told the body before
+abbrev pub before_of : Change → ℕ
+before_of (change.One part) = part.before
+before_of (change.Two first second) = first.before
+
+-- a body of the first length has what is to stay, and the one that is made of it has the second
+abbrev pub Lengthens : Part → ℕ → ℕ → Type 0
+Lengthens part old new = (4 + part.front + part.back ≤ old) × (new ≡ 4 + part.front + part.back + length part.middle.now)
+
+abbrev pub LengthensBy : Change → ℕ → ℕ → Type 0
+LengthensBy (change.One part) old new = Lengthens part old new
+LengthensBy (change.Two first second) old new = (mid : ℕ) × Lengthens first old mid × Lengthens second mid new
 
 -- what its record has behind the fields
 abbrev pub change_bytes : Change → List ℕ

@@ -1,6 +1,14 @@
 // What has changed in a directory's body, as one record tells it: in one place, or in two, as a rename does.
 ghost use Rattle.std.specs.Prelude.{◌≡◌, ◌≤◌, IfOk, IfSome, OnOk, length, true};
-ghost use Rattle.eden_overlay_journal.specs.Records.{change_bytes, made_by, note_of, record_of, with_change};
+ghost use Rattle.eden_overlay_journal.specs.Records.{
+  LengthensBy,
+  before_of,
+  change_bytes,
+  made_by,
+  note_of,
+  record_of,
+  with_change,
+};
 
 use crate::part::{COUNT_LEN, PART_LEN, Part, same_front};
 use crate::record::{Note, number_at, write_record};
@@ -38,7 +46,8 @@ impl<'a> Change<'a> {
         new: &'a [u8],
         room: &mut Vec<u8>,
     ) -> Result<Option<Change<'a>>, AllocError>
-        ensures { IfOk result (λ o. IfSome o (λ change. with_change change old.now ≡ new.now)) }
+        ensures made { IfOk result (λ o. IfSome o (λ change. with_change change old.now ≡ new.now)) }
+        ensures before { IfOk result (λ o. IfSome o (λ change. before_of change ≡ before)) }
     {
         let Some(part) = Part::between(before, old, new) else {
             return Ok(None);
@@ -72,7 +81,9 @@ impl<'a> Change<'a> {
     }
 
     // Where the record begins that told the body before.
-    pub(crate) fn before(&self) -> u64 {
+    pub(crate) fn before(&self) -> u64
+        ensures { result ≡ before_of self.now }
+    {
         match self {
             Change::One(part) => part.before,
             Change::Two(first, _) => first.before,
@@ -80,7 +91,9 @@ impl<'a> Change<'a> {
     }
 
     // How long the body is that it makes of one of that length; None where that hasn't what is to stay.
-    pub(crate) fn len_of(&self, len: usize) -> Option<usize> {
+    pub(crate) fn len_of(&self, len: usize) -> Option<usize>
+        ensures { IfSome result (LengthensBy self.now len) }
+    {
         match self {
             Change::One(part) => part.len_of(len),
             Change::Two(first, second) => second.len_of(first.len_of(len)?),
@@ -144,7 +157,8 @@ fn two_between<'a>(
     new: &'a [u8],
     room: &mut Vec<u8>,
 ) -> Result<Option<Change<'a>>, AllocError>
-    ensures { IfOk result (λ o. IfSome o (λ change. with_change change old.now ≡ new.now)) }
+    ensures made { IfOk result (λ o. IfSome o (λ change. with_change change old.now ≡ new.now)) }
+    ensures before { IfOk result (λ o. IfSome o (λ change. before_of change ≡ before)) }
 {
     let Some(first) = first_between(before, old, new) else {
         return Ok(None);
@@ -159,7 +173,9 @@ fn two_between<'a>(
 }
 
 // The first place in which the bodies differ, if a row went there or came there, and the same rows stand behind.
-fn first_between<'a>(before: u64, old: &[u8], new: &'a [u8]) -> Option<Part<'a>> {
+fn first_between<'a>(before: u64, old: &[u8], new: &'a [u8]) -> Option<Part<'a>>
+    ensures { IfSome result (λ part. part.before ≡ before) }
+{
     let (_, old_rows) = old.split_first_chunk::<COUNT_LEN>()?;
     let (count, rows) = new.split_first_chunk::<COUNT_LEN>()?;
     let front = same_front(old_rows, rows);
