@@ -16,19 +16,20 @@ from collections import ChainMap
 from collections.abc import Iterator, Mapping
 
 import cases
-import losing_disk
+import tracing
 from checks import check, ending_of, finished, git, watched
 from commit_lives import snapshot, take
 from helpers.git import blob_id
 from helpers.running import Ending, pipes
-from losing_disk import FDATASYNC, FSYNC, UNLINK, UNLINKAT, Disk, Info, Kept, kept_in
-from mount_losses import can_watch, losses
+from losing_disk import FDATASYNC, FSYNC, UNLINK, UNLINKAT, Disk, Kept, kept_in
+from mount_losses import losses
 from old_overlay import old_files, old_nodes
 from overlays import RESCAN, Commit, OnRepository, Place, as_described, check_session, known_numbers, replied
 from programs import EXAMPLES, GIT_OBJECTS, MOUNTD, SAMPLE_OBJECTS, SAMPLE_ROOT, listening
 from random_requests import RandomRequests, whole
 from served_commits import MOST_NODES, NAMES, rows_of, trees_in
 from told_changes import LINK, Files, entered, letters_in, letters_of, rows_in, told
+from tracing import Info, can_watch
 from yakembi.overlay_files import (DIRECTORY, EXECUTABLE, FILE, FOLDER, LINK as A_LINK, OBJECT, OWN, PLAIN, Damaged,
                                    Entry, Shown, body_of, directory_body, entries_of, entry_bytes, file_bytes,
                                    has_numbers, state_bytes, state_of)
@@ -227,9 +228,9 @@ def cut_off(place: Place, to: str, record: pathlib.Path, count: int) -> int | No
     record.mkdir()
     # No new file gets the number of one that is open.
     held = [path.open() for path in place.overlay.iterdir()]
-    program = losing_disk.started(words(place, to, place.option, place.objects))
+    program = tracing.started(words(place, to, place.option, place.objects))
     try:
-        return losing_disk.watch(CutDisk(place.overlay, record, count), program)
+        return tracing.watch(CutDisk(place.overlay, record, count), program)
     except CutOff:
         os.kill(program, signal.SIGKILL)
         os.waitpid(program, 0)

@@ -34,18 +34,6 @@ NAMES = 760
 CHANGES, BETWEEN = 700, 100
 
 
-def can_watch() -> bool:
-    """Whether a program may be watched here."""
-    child = os.fork()
-    if child == 0:
-        try:
-            losing_disk.ptrace(losing_disk.TRACE_ME, 0)
-        except OSError:
-            os._exit(1)
-        os._exit(0)
-    return os.waitstatus_to_exitcode(os.waitpid(child, 0)[1]) == 0
-
-
 class Run(Kernel):
     """A mountd on a disk that loses what nobody waited for."""
 

@@ -28,6 +28,8 @@ OWNER = os.getuid(), os.getgid()
 LONGEST_CONTENT = 1 << 18
 DEAR = range(LONGEST_CONTENT + 1, LONGEST_FILE + 1)
 LONGEST_WRITE = 150_000
+# The words by which the sample is shown.
+SHOW_SAMPLE = [MOUNTD, "fuse", "--root", SAMPLE_ROOT, "--objects", SAMPLE_OBJECTS]
 # A message, and what a kernel offers at the start.
 STARTS = spelled("init", 1, 0, 7, 31, 131_072, 0xFFFFFFFF)
 
@@ -84,7 +86,7 @@ def showing(place: Place, *more: object) -> Kernel:
 
 
 def show_sample() -> Kernel:
-    return Kernel([MOUNTD, "fuse", "--root", SAMPLE_ROOT, "--objects", SAMPLE_OBJECTS])
+    return Kernel(SHOW_SAMPLE)
 
 
 # ---- messages that are none, a row each
@@ -207,7 +209,7 @@ def check_ends(folder: pathlib.Path) -> None:
         kernel.asked(STARTS)
         kernel.send(b"")
         check("ends: an empty message", (status_of(kernel.process), kernel.end()), (0, (0, b"")))
-    words = [str(word) for word in [MOUNTD, "fuse", "--root", SAMPLE_ROOT, "--objects", SAMPLE_OBJECTS]]
+    words = [str(word) for word in SHOW_SAMPLE]
     unreadable = os.open(folder, os.O_RDONLY)
     done = subprocess.run(words, stdin=unreadable, capture_output=True, timeout=PATIENCE)
     os.close(unreadable)
