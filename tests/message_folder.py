@@ -216,6 +216,9 @@ class MessageFolder:
 
     def rename(self, source: Path, target: Path) -> None:
         with self.forgetting():
+            if not source:
+                # Where it is to go is looked for before the top is refused.
+                self.above(target, "rename")
             (node, name), (head, new) = self.above(source, "rename"), self.above(target, "rename")
             # What isn't there is told before a new name that is too long.
             self.entry(self.ask("lookup", node, name))
