@@ -17,7 +17,7 @@ from typing import Self
 from checks import PATIENCE, check, git, make_repository, skip, whole_tree
 from helpers.git import DEEP, content_of, environment, make_large_repository
 from programs import MOUNT_GIT, MOUNTD
-from yakembi import kernel
+from yakembi import kernel, mount_git
 
 LONGEST_MOUNT = 280
 UNMOUNT = shutil.which("fusermount3") or ""
@@ -172,7 +172,7 @@ class MountGit:
 
     def said(self) -> list[str]:
         """The lines that tell of something that went wrong."""
-        return [line for line in self.lines() if line.startswith("mount-git: ")]
+        return [line for line in told_anywhere(self.lines()) if line.startswith("mount-git: ")]
 
     def is_mounted(self) -> bool:
         """Whether the folder is a mount, be it one that nobody serves any more."""
@@ -247,7 +247,12 @@ def said_by(*words: object) -> Said:
     """The status and the lines of a program."""
     done = subprocess.run([str(word) for word in words], stdin=subprocess.DEVNULL, stdout=subprocess.PIPE,
                           stderr=subprocess.STDOUT, timeout=PATIENCE)
-    return done.returncode, done.stdout.decode(errors="replace").splitlines()
+    return done.returncode, told_anywhere(done.stdout.decode(errors="replace").splitlines())
+
+
+def told_anywhere(lines: list[str]) -> list[str]:
+    """The lines but for one that `mount-git` tells where an overlay isn't soon open, as on a machine that is busy."""
+    return [line for line in lines if not line.endswith(mount_git.SLOW)]
 
 
 # ---- commands in both folders

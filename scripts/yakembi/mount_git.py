@@ -39,6 +39,7 @@ from yakembi.programs import add_mountd, check_text, run_mountd, source_of
 SECONDS_LOCKED = 10
 # Who waits longer for mountd to open an overlay is told.
 SECONDS_TO_OPEN = 3.0
+SLOW = "isn't open yet: after a kill all its files are looked at, which takes some seconds for thousands"
 # As many requests are answered at once where objects may have to be fetched from elsewhere, and nobody says how many.
 THREADS = 4
 # How long a branch that was moved from elsewhere may go unnoticed, and where nothing can be said, as while the
@@ -417,8 +418,7 @@ def show(words: argparse.Namespace, repository: Repository, noted: Noted, source
     asked = Asked(showing, words.mountd, source, repository, words.revision, overlay)
     with kernel.ended_by_signals(showing):
         try:
-            with told_if_slow(f"the overlay {overlay.path} isn't open yet: after a kill all its files are looked at, "
-                              "which takes some seconds for thousands"):
+            with told_if_slow(f"the overlay {overlay.path} {SLOW}"):
                 showing.open()
         except Unopened as refusal:
             repair = [str(words.mountd), "repair", "--root", noted.tree, "--overlay", overlay.path]
