@@ -135,9 +135,11 @@ def asked_for(log: pathlib.Path) -> list[str]:
 # ---- mount-git
 
 
-def heed_interrupts() -> None:
-    """What a shell starts in the background ignores Ctrl-C, and so does all that it starts."""
-    signal.signal(signal.SIGINT, signal.SIG_DFL)
+def heed_signals() -> None:
+    """What a shell starts in the background ignores Ctrl-C, and what `nohup` starts SIGHUP; so does all that these
+    start."""
+    for number in (signal.SIGINT, signal.SIGHUP):
+        signal.signal(number, signal.SIG_DFL)
 
 
 class MountGit:
@@ -158,7 +160,7 @@ class MountGit:
             os.mkdir(folder)
         with open(self.log, "wb") as log:
             self.process = subprocess.Popen(words, stdin=subprocess.DEVNULL, stdout=log, stderr=log,
-                                            start_new_session=True, preexec_fn=heed_interrupts)
+                                            start_new_session=True, preexec_fn=heed_signals)
 
     def wait_until_shown(self) -> None:
         end = time.monotonic() + PATIENCE
@@ -189,6 +191,14 @@ class MountGit:
         """Ends it in one of the ways that `ENDINGS` names, and gives its status."""
         ENDINGS[how](self)
         return self.status()
+
+    def signal_until_it_ends(self) -> None:
+        """Sends it all signals that end it, again and again, at whatever it is."""
+        end = time.monotonic() + PATIENCE
+        while self.process.poll() is None and time.monotonic() < end:
+            for number in (signal.SIGTERM, signal.SIGINT, signal.SIGHUP):
+                self.process.send_signal(number)
+            time.sleep(0.001)
 
     def kill(self) -> None:
         """Kills it and all that it started, at once, and leaves the dead mount."""
@@ -226,6 +236,8 @@ def unmount(folder: pathlib.Path) -> None:
 ENDINGS: dict[str, Callable[[MountGit], object]] = {
     "Ctrl-C": lambda mount: os.killpg(mount.process.pid, signal.SIGINT),
     "SIGTERM": lambda mount: mount.process.terminate(),
+    "SIGHUP": lambda mount: mount.process.send_signal(signal.SIGHUP),
+    "signals again and again": MountGit.signal_until_it_ends,
     "fusermount3 -u": lambda mount: unmount(mount.folder),
 }
 

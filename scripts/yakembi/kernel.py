@@ -13,8 +13,8 @@ import errno
 import os
 import pathlib
 import re
+import select
 import shutil
-import signal
 import socket
 import subprocess
 import threading
@@ -38,9 +38,10 @@ MS_NOSUID, MS_NODEV, MNT_FORCE, MNT_DETACH = 2, 4, 1, 2
 OPTIONS = ["default_permissions", "max_read=65536"]
 # How long a mount that is unmounted may take to end before who asked for that is told.
 SECONDS_TO_CLOSE = 60
-ENDED = (signal.SIGTERM, signal.SIGINT, signal.SIGHUP)
 # By it the C library is told how to allocate.
 TUNABLES = "GLIBC_TUNABLES"
+# How long a signal may go unheeded that comes in an unlucky moment.
+SECONDS_UNHEEDED = 1
 LIBC = ctypes.CDLL(None, use_errno=True)
 # As many as `mountd fuse` takes.
 MOST_THREADS = 63
@@ -189,6 +190,11 @@ class Shown:
     def last_words(self) -> str:
         assert self.child.stderr is not None
         with self.child.stderr:
+            end = select.poll()
+            end.register(self.child.stderr)
+            # A signal that comes just before the wait is heeded behind it.
+            while not end.poll(1_000 * SECONDS_UNHEEDED):
+                pass
             lines = self.child.stderr.read().decode(errors="replace").splitlines()
         status = self.child.wait()
         return lines[-1] if status in WITH_A_LINE and lines else f"mountd ended with status {status}"
@@ -251,7 +257,7 @@ class Showing:
             except Unopened as refusal:
                 if str(refusal) == "NotClean" and not more:
                     more = ["--rescan"]
-                elif str(refusal) != "Locked" or time.monotonic() > end:
+                elif str(refusal) != "Locked" or self.is_ended or time.monotonic() > end:
                     raise
                 else:
                     time.sleep(0.1)
@@ -363,14 +369,3 @@ class Showing:
                 abort(self.place, self.connection)
             if self.is_ours():
                 unmount(self.folder)
-
-
-@contextlib.contextmanager
-def ended_by_signals(showing: Showing) -> Iterator[None]:
-    """Signals unmount the folder."""
-    before = [signal.signal(number, lambda *_: showing.end()) for number in ENDED]
-    try:
-        yield
-    finally:
-        for number, handler in zip(ENDED, before):
-            signal.signal(number, handler)

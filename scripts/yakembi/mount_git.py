@@ -23,8 +23,8 @@ import time
 from collections.abc import Callable, Iterator, Sequence
 from typing import BinaryIO, Protocol
 
-from yakembi import (background, commit_folder, control, dematerialise_overlay, dot_git, end_folder, folder_changes,
-                     kept_tree, kernel, run_git)
+from yakembi import (background, commit_folder, control, dematerialise_overlay, dot_git, end_folder, ending,
+                     folder_changes, kept_tree, kernel, run_git)
 from yakembi.addresses import temporary_place
 from yakembi.control import Answers, Fields, tell
 from yakembi.git import Refusal, Repository
@@ -58,6 +58,7 @@ GIT_FOLDERS = ("branches", "common", "hooks", "info", "logs", "modules", "object
                "rr-cache", "worktrees")
 # A disk that has no more bytes is full: a directory that is stored may be longer.
 FULL = 1 << 16
+ENDED_EARLY = "it was ended before it was mounted"
 # What `mountd repair` is for.
 REPAIRED = ("Damaged", "Dangling", "Twice")
 
@@ -416,11 +417,13 @@ def show(words: argparse.Namespace, repository: Repository, noted: Noted, source
     showing = kernel.Showing(words.mountd, noted.tree, source, overlay.path, folder, SECONDS_LOCKED, noted.seconds,
                              threads)
     asked = Asked(showing, words.mountd, source, repository, words.revision, overlay)
-    with kernel.ended_by_signals(showing):
+    with ending.calls(showing.end):
         try:
             with told_if_slow(f"the overlay {overlay.path} {SLOW}"):
                 showing.open()
         except Unopened as refusal:
+            if showing.is_ended:
+                raise Refusal(ENDED_EARLY) from None
             repair = [str(words.mountd), "repair", "--root", noted.tree, "--overlay", overlay.path]
             raise unopened(str(refusal), overlay.path, shlex.join(repair)) from None
         except FileNotFoundError as problem:
@@ -431,7 +434,7 @@ def show(words: argparse.Namespace, repository: Repository, noted: Noted, source
                 dot_git.renew(asked.git, asked.facts, showing)
             if showing.is_ended:
                 showing.wait()
-                raise Refusal("it was ended before it was mounted")
+                raise Refusal(ENDED_EARLY)
             print(f"mounted {folder}", flush=True)
             shown()
             with watched(asked, turn):
@@ -533,10 +536,12 @@ def main() -> int:
         sys.stdout.reconfigure(errors="surrogateescape")
     command, parsed = COMMANDS.get("".join(sys.argv[1:2]), (run, parser))
     words = parsed().parse_args(sys.argv[1 if command is run else 2 :])
-    signal.signal(signal.SIGTERM, lambda *_: sys.exit(1))
-    # What is held is let go, also where a terminal is closed; but for `nohup`.
-    if signal.getsignal(signal.SIGHUP) != signal.SIG_IGN:
-        signal.signal(signal.SIGHUP, lambda *_: sys.exit(1))
+    # What is held is let go, also where a terminal is closed.
+    ending.exit_at(signal.SIGTERM, signal.SIGHUP)
+    if command is run:
+        ending.exit_at(signal.SIGINT)
+    elif ending.is_heeded(signal.SIGINT):
+        signal.signal(signal.SIGINT, signal.default_int_handler)
     try:
         check_paths(words)
         command(words)

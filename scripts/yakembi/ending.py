@@ -1,0 +1,47 @@
+"""How signals end `mount-git`: by an exit, which lets go what is held, or as the mount ends. Then they do nothing more,
+so that what is let go is, and the status is that of the end.
+"""
+
+import contextlib
+import signal
+import sys
+from collections.abc import Callable, Iterator
+
+SIGNALS = (signal.SIGTERM, signal.SIGINT, signal.SIGHUP)
+# Those by which an exit was begun. What is raised then is lost where Python happens to be in a destructor.
+came: list[int] = []
+
+
+def exit_at(*numbers: signal.Signals) -> None:
+    """These end the program with status 1, but for those that whoever started it has ignored, as `nohup` does."""
+    for number in filter(is_heeded, numbers):
+        signal.signal(number, begin_exit)
+
+
+def is_heeded(number: signal.Signals) -> bool:
+    return number == signal.SIGTERM or signal.getsignal(number) != signal.SIG_IGN
+
+
+def begin_exit(number: int, _: object) -> None:
+    came.append(number)
+    ignore()
+    sys.exit(1)
+
+
+def ignore() -> None:
+    """No signal disturbs the program any more, nor what it runs from now on."""
+    for number in SIGNALS:
+        signal.signal(number, signal.SIG_IGN)
+
+
+@contextlib.contextmanager
+def calls(end: Callable[[], object]) -> Iterator[None]:
+    """In the block signals call `end`, each time, and behind it they do nothing."""
+    for number in filter(is_heeded, SIGNALS):
+        signal.signal(number, lambda *_: end())
+    if came:
+        sys.exit(1)
+    try:
+        yield
+    finally:
+        ignore()
