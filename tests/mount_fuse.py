@@ -1,17 +1,19 @@
 """A commit that `mount-git` shows through FUSE: the world's tools in it, and how it begins and ends."""
 
 import contextlib
+import itertools
 import mmap
 import os
 import pathlib
 import random
+import signal
 import subprocess
 import sys
 import threading
 import time
 import zlib
 from collections import Counter
-from collections.abc import Callable, Iterable
+from collections.abc import Callable, Iterable, Iterator
 from concurrent.futures import ThreadPoolExecutor
 
 from answering import AUTHOR
@@ -135,8 +137,12 @@ def left_of(running: list[int]) -> list[int]:
 
 
 def wait_for(path: pathlib.Path) -> None:
+    wait_until(path.exists)
+
+
+def wait_until(is_so: Callable[[], bool]) -> None:
     end = time.monotonic() + PATIENCE
-    while not path.exists() and time.monotonic() < end:
+    while not is_so() and time.monotonic() < end:
         time.sleep(0.001)
 
 
@@ -193,6 +199,68 @@ def check_second_mount(folder: pathlib.Path, repository: pathlib.Path) -> None:
         check("another program's overlay: waited for", time.monotonic() - began >= 1, True)
         check("another program's overlay: what is shown", (mount.folder / "made").read_text(), "made")
         check("another program's overlay: the end", (mount.end("SIGTERM"), mount.said()), (0, []))
+
+
+def check_ends_at_once(folder: pathlib.Path, repository: pathlib.Path) -> None:
+    """Two that end it at once, or one and a signal, or one and an unmount, each wait for its end, and are told of
+    nothing."""
+    def end(mount: MountGit) -> None:
+        ends.append(subprocess.Popen([MOUNT_GIT, "end", mount.folder], stdout=subprocess.PIPE,
+                                     stderr=subprocess.STDOUT))
+        wait_until(lambda: sockets_of(mount.process.pid) > len(ends))
+
+    others: dict[str, Callable[[MountGit], object]] = {
+        "another": end, "SIGTERM": ENDINGS["SIGTERM"], "an unmount": lambda mount: kernel.unmount(str(mount.folder)),
+    }
+    for how, other in others.items():
+        with MountGit(repository, "HEAD", folder / "mounted", "--overlay", folder / "overlay") as mount:
+            ends: list[subprocess.Popen[bytes]] = []
+            # Who would end it asks mountd something before that.
+            with standing(mount):
+                end(mount)
+                other(mount)
+            told = [(one.communicate(timeout=PATIENCE)[0], one.returncode) for one in ends]
+            check(f"ended by two, {how}: what these are told", told, [(b"", 0)] * len(ends))
+            check(f"ended by two, {how}: the end", (mount.status(), mount.said()), (0, []))
+
+
+def check_next_mount(folder: pathlib.Path, repository: pathlib.Path) -> None:
+    """While a mount that was unmounted still closes its overlay, the folder may be mounted again, and elsewhere another
+    one: these stay as the first one ends, which the kernel has taken its number from, and can be asked."""
+    for again, how in itertools.product(["mounted", "elsewhere"], ["nothing", "SIGTERM"]):
+        name = f"a mount behind one that ends, {again}, {how}"
+        with MountGit(repository, "HEAD", folder / "mounted", "--overlay", folder / "overlay") as first:
+            with standing(first):
+                ENDINGS["fusermount3 -u"](first)
+                following = MountGit(repository, "HEAD", folder / again, "--overlay", folder / "another overlay")
+                wait_until(following.is_mounted)
+                if how != "nothing":
+                    ENDINGS[how](first)
+                    time.sleep(0.1)
+            check(f"{name}: the first one's end", (first.status(), first.said()), (0, []))
+            with following:
+                check(f"{name}: it is shown", (following.folder / "plain.txt").read_bytes(), b"plain\n")
+                check(f"{name}: it can be asked", said_by(MOUNT_GIT, "changes", following.folder), (0, []))
+                check(f"{name}: its end", (following.end("SIGTERM"), following.said()), (0, []))
+
+
+@contextlib.contextmanager
+def standing(mount: MountGit) -> Iterator[None]:
+    """Its mountd stands still in the block."""
+    mountd, = children(mount.process.pid)
+    os.kill(mountd, signal.SIGSTOP)
+    try:
+        yield
+    finally:
+        os.kill(mountd, signal.SIGCONT)
+
+
+def sockets_of(process: int) -> int:
+    found = 0
+    for place in pathlib.Path(f"/proc/{process}/fd").iterdir():
+        with contextlib.suppress(OSError):
+            found += os.readlink(place).startswith("socket:")
+    return found
 
 
 def check_refusals(folder: pathlib.Path, repository: pathlib.Path) -> None:

@@ -20,7 +20,7 @@ import subprocess
 import threading
 import time
 from collections.abc import Callable, Iterator, Mapping, Sequence
-from typing import TypeVar
+from typing import NamedTuple, TypeVar
 
 from yakembi.control import said_of
 from yakembi.git import Refusal, said
@@ -48,12 +48,38 @@ MOST_THREADS = 63
 Result = TypeVar("Result")
 
 
+class Mount(NamedTuple):
+    """A mount as the kernel tells it: its path, the number of its device, its kind, and what it is of."""
+
+    path: bytes
+    number: int
+    kind: bytes
+    source: bytes
+
+
+class Control(NamedTuple):
+    """The kernel's file that ends a connection, and its inode number. Once a folder is unmounted the connection's own
+    number, by which that file is named, may be another's, though mountd still runs; the inode number isn't."""
+
+    file: pathlib.Path
+    inode: int
+
+
 class Unopened(Exception):
     """mountd's own word for why it didn't open the overlay, as `Locked`, or the line that it ended with."""
 
 
+class Ends(Refusal):
+    """The mount ends already, or somebody else unmounted the folder."""
+
+
 class Unclosed(Exception):
     """mountd's own word for why it didn't close the overlay well, or the line that it ended with."""
+
+
+def our_name() -> str:
+    """What the kernel says that our mounts are of. No other run that is there has the same."""
+    return f"mount-git.{os.getpid()}"
 
 
 def mount(folder: str) -> int:
@@ -64,7 +90,7 @@ def mount(folder: str) -> int:
 def mount_as_root(folder: str) -> int:
     descriptor = os.open("/dev/fuse", os.O_RDWR | os.O_CLOEXEC)
     words = [f"fd={descriptor}", "rootmode=40000", f"user_id={os.getuid()}", f"group_id={os.getgid()}", *OPTIONS]
-    if LIBC.mount(b"mount-git", os.fsencode(folder), KIND, MS_NOSUID | MS_NODEV,
+    if LIBC.mount(our_name().encode(), os.fsencode(folder), KIND, MS_NOSUID | MS_NODEV,
                   ",".join(words).encode()) != 0:
         number = ctypes.get_errno()
         os.close(descriptor)
@@ -75,7 +101,7 @@ def mount_as_root(folder: str) -> int:
 def mount_by_helper(folder: str) -> int:
     ours, theirs = socket.socketpair()
     with ours, theirs:
-        words = ["fusermount3", "-o", ",".join([*OPTIONS, "subtype=mount-git", "fsname=mount-git"]), "--", folder]
+        words = ["fusermount3", "-o", ",".join([*OPTIONS, "subtype=mount-git", f"fsname={our_name()}"]), "--", folder]
         done = subprocess.run(words, env={**os.environ, "_FUSE_COMMFD": str(theirs.fileno())},
                               pass_fds=[theirs.fileno()], capture_output=True)
         if done.returncode != 0:
@@ -107,45 +133,74 @@ def unmount_unused(folder: str) -> bool:
     return subprocess.run(["fusermount3", "-u", "--", folder], capture_output=True).returncode == 0
 
 
-def abort(folder: str, connection: int | None = None) -> None:
-    """Ends that connection, or else that of a mount of ours at the folder, so that mountd ends also while a program has
-    a file open, or another namespace the mount; of what else the folder lies on nothing is ended. This takes the
-    kernel's file of the connection, which is there where fusectl is mounted; without it root can do so at the folder,
-    and for others nothing happens."""
-    there = connection_of(folder)
-    connection = there if connection is None else connection
-    if connection is None:
-        return
-    try:
-        with open(CONNECTIONS / str(connection) / "abort", "w") as file:
-            file.write("1")
-    except OSError:
-        if os.geteuid() == 0 and there == connection:
-            LIBC.umount2(os.fsencode(folder), MNT_FORCE)
+def abort(folder: str, known: Control | None = None) -> None:
+    """Ends the connection of our mount at the folder, or else the one that was known, so that mountd ends also while a
+    program has a file open, or another namespace the mount; of what else the folder lies on nothing is ended. This
+    takes the kernel's file of the connection, which is there where fusectl is mounted; without it root can do so at the
+    folder, and for others nothing happens."""
+    control = control_of(folder) or known
+    with contextlib.suppress(OSError):
+        if control is not None:
+            with open(control.file, "w") as file:
+                if os.fstat(file.fileno()).st_ino == control.inode:
+                    file.write("1")
+            return
+    if os.geteuid() == 0 and is_own(folder):
+        LIBC.umount2(os.fsencode(folder), MNT_FORCE)
 
 
-def mounts() -> Iterator[tuple[bytes, int, bytes]]:
-    """Each mount, in the order in which they came: its path, the number of its device, and what it is."""
+def control_of(folder: str) -> Control | None:
+    """What ends the connection of our mount at the folder; None where ours isn't there, or fusectl."""
+    found = last_at(folder)
+    if found is not None and is_of_us(found):
+        file = CONNECTIONS / str(found.number) / "abort"
+        with contextlib.suppress(OSError):
+            return Control(file, file.stat().st_ino)
+    return None
+
+
+def mounts() -> Iterator[Mount]:
+    """Each mount, in the order in which they came."""
     for row in MOUNTS.read_bytes().splitlines():
         head, _, tail = row.partition(b" - ")
         _, _, device, _, place, *_ = head.split(b" ")
+        kind, of, *_ = tail.split(b" ")
         path = re.sub(rb"\\([0-7]{3})", lambda code: bytes([int(code[1], 8)]), place)
-        yield path, int(device.partition(b":")[2]), tail
+        yield Mount(path, int(device.partition(b":")[2]), kind, of)
+
+
+def mounts_at(folder: str) -> list[Mount]:
+    """The mounts at the folder, whose path has no links. Nobody is asked but the kernel, who may have to be waited for.
+    """
+    return [found for found in mounts() if found.path == os.fsencode(folder)]
+
+
+def last_at(folder: str) -> Mount | None:
+    found = mounts_at(folder)
+    return found[-1] if found else None
+
+
+def is_of_us(found: Mount) -> bool:
+    """Whether this run made that mount."""
+    return (found.kind, found.source) == (KIND, our_name().encode())
+
+
+def is_own(folder: str) -> bool:
+    """Whether what is mounted at the folder, last of all, is ours: another one may have come since."""
+    found = last_at(folder)
+    return found is not None and is_of_us(found)
 
 
 def connection_of(folder: str) -> int | None:
-    """The number by which the kernel names the connection of the last mount of ours at the folder, whose path has no
-    links; None where none is. Nobody is asked but the kernel, who may have to be waited for."""
-    found = None
-    for path, device, what in mounts():
-        if path == os.fsencode(folder):
-            found = device if what.startswith(KIND + b" ") else None
-    return found
+    """The number by which the kernel names the connection of the last mount at the folder, if a `mount-git` made it;
+    None where none is."""
+    found = last_at(folder)
+    return found.number if found is not None and found.kind == KIND else None
 
 
 def mounted_inside(folder: str) -> str | None:
     """The last mount below the folder, whose path has no links; None where none is."""
-    below = [path for path, _, _ in mounts() if path.startswith(os.fsencode(folder) + b"/")]
+    below = [found.path for found in mounts() if found.path.startswith(os.fsencode(folder) + b"/")]
     return os.fsdecode(below[-1]) if below else None
 
 
@@ -226,8 +281,8 @@ class Showing:
         # Whoever has it may put another mountd in the place of the one that shows the folder.
         self.turn = threading.Lock()
         self.shown: Shown | None = None
-        # As the kernel numbers them, that of the mount.
-        self.connection: int | None = None
+        # What ends the connection of the mount, also where that isn't at the folder any more.
+        self.control: Control | None = None
         # Set once the last mountd has ended; `fault` is what was wrong with that.
         self.done = threading.Event()
         self.fault: str | None = None
@@ -238,13 +293,9 @@ class Showing:
         """Shows it, by the descriptor if it is mounted already. `Unopened`, with mountd's own word, if the overlay
         isn't opened."""
         self.shown = self.opened(descriptor)
-        self.connection = connection_of(self.place)
+        self.control = control_of(self.place)
         if self.is_ended:
             self.end()
-
-    def is_ours(self) -> bool:
-        """Whether what is mounted at the folder is ours, as far as we know our number: another one may have come."""
-        return self.connection is None or connection_of(self.place) == self.connection
 
     def opened(self, descriptor: int | None) -> Shown:
         """A mountd that shows the folder. What a killed one left is rescanned. It waits a little for one that still
@@ -281,7 +332,7 @@ class Showing:
             said = shown.last_words()
             with self.turn:
                 if self.shown is shown:
-                    if self.is_ours():
+                    if is_own(self.place):
                         unmount(self.folder)
                     break
         if shown.child.returncode != 0:
@@ -312,15 +363,20 @@ class Showing:
                 return work()
 
     def leave(self, what_to_do: str) -> None:
-        """Unmounts the folder. A Refusal, where it is in use, which says what to do then, or what is mounted in it."""
+        """Unmounts the folder. A Refusal, where it is in use, which says what to do then, or what is mounted in it.
+        `Ends`, where somebody else unmounted it, or ends the mount."""
         with contextlib.suppress(OSError):
             # Answered after the closes before it, of which the last one of a removed file takes that away.
             os.statvfs(self.folder)
-        if self.is_ended or not unmount_unused(self.folder):
-            inside = mounted_inside(self.place)
-            if inside is not None:
-                what_to_do = f"unmount {inside}, which is mounted in it"
-            raise Refusal(f"{self.folder} is in use: {what_to_do}")
+        if not self.is_ended and is_own(self.place) and unmount_unused(self.folder):
+            return
+        if self.is_ended or not any(map(is_of_us, mounts_at(self.place))):
+            raise Ends(f"the mount at {self.folder} ends")
+        if not is_own(self.place):
+            what_to_do = "unmount what is mounted over it"
+        elif (inside := mounted_inside(self.place)) is not None:
+            what_to_do = f"unmount {inside}, which is mounted in it"
+        raise Refusal(f"{self.folder} is in use: {what_to_do}")
 
     @contextlib.contextmanager
     def or_lost(self) -> Iterator[None]:
@@ -352,7 +408,9 @@ class Showing:
             if by_force:
                 self.end()
             else:
-                self.leave("leave the folder and close its files, or end it by --force")
+                # Who was faster wanted the same.
+                with contextlib.suppress(Ends):
+                    self.leave("leave the folder and close its files, or end it by --force")
                 self.is_ended = True
         if not self.done.wait(SECONDS_TO_CLOSE):
             raise Refusal(f"{self.folder} is unmounted, but mountd goes on: it stores what it has, or something holds "
@@ -363,9 +421,9 @@ class Showing:
     def end(self) -> None:
         """Unmounts the folder, be it in use, upon which mountd closes the overlay and ends."""
         self.is_ended = True
-        if not (self.is_ours() and unmount_unused(self.folder)):
-            # While mountd runs nobody else has the number.
-            if self.shown is None or self.shown.child.poll() is None:
-                abort(self.place, self.connection)
-            if self.is_ours():
-                unmount(self.folder)
+        if is_own(self.place):
+            unmount_unused(self.folder)
+        # Where it is in use it goes on, and where another namespace has it too.
+        abort(self.place, self.control)
+        if is_own(self.place):
+            unmount(self.folder)

@@ -35,8 +35,10 @@ from yakembi.overlay import Noted, OverlayFolder, make_folder
 from yakembi.partial_clone import AHEAD
 from yakembi.programs import add_mountd, check_text, run_mountd, source_of
 
-# A mountd whose folder was just unmounted still closes the overlay, and has it for so long.
+# A mountd whose folder was just unmounted still closes the overlay, and has it for so long; and so does the run that
+# showed it, and has the folder's socket.
 SECONDS_LOCKED = 10
+SECONDS_BETWEEN_TRIES = 0.05
 # Who waits longer for mountd to open an overlay is told.
 SECONDS_TO_OPEN = 3.0
 SLOW = "isn't open yet: after a kill all its files are looked at, which takes some seconds for thousands"
@@ -345,15 +347,24 @@ def said_of_disk(overlay: str) -> str:
 
 
 @contextlib.contextmanager
-def reachable(folder: str, answers: Answers, is_to_stay: bool) -> Iterator[threading.Lock]:
+def reachable(showing: kernel.Showing, answers: Answers, is_to_stay: bool) -> Iterator[threading.Lock]:
     """Answers other runs, but while somebody has the lock; where they can't reach this one the folder is shown all the
-    same."""
+    same. One that showed the folder before may still end, and is waited for a little."""
+    end = time.monotonic() + SECONDS_LOCKED
     with contextlib.ExitStack() as stack:
         turn = threading.Lock()
-        try:
-            turn = stack.enter_context(control.serving(folder, answers, is_to_stay))
-        except (Refusal, OSError) as problem:
-            tell(f"what {folder} shows can't be told or committed: {control.said_of(problem)}")
+        while True:
+            try:
+                turn = stack.enter_context(control.serving(showing.folder, answers, is_to_stay))
+                break
+            except (Refusal, OSError) as problem:
+                is_taken = isinstance(problem, OSError) and problem.errno == errno.EADDRINUSE
+                if not is_taken or time.monotonic() > end:
+                    tell(f"what {showing.folder} shows can't be told or committed: {control.said_of(problem)}")
+                    break
+            if showing.is_ended:
+                break
+            time.sleep(SECONDS_BETWEEN_TRIES)
         yield turn
 
 
@@ -428,7 +439,7 @@ def show(words: argparse.Namespace, repository: Repository, noted: Noted, source
             raise unopened(str(refusal), overlay.path, shlex.join(repair)) from None
         except FileNotFoundError as problem:
             raise Refusal(f"{words.mountd} can't be run ({problem.strerror}): `make run` builds it") from None
-        answering = reachable(folder, asked.answers(), words.background is not None)
+        answering = reachable(showing, asked.answers(), words.background is not None)
         with shown_till_the_end(showing), answering as turn, ends_told(overlay):
             with turn:
                 dot_git.renew(asked.git, asked.facts, showing)
