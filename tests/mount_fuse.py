@@ -23,7 +23,7 @@ from folder_operations import Folder, compare, outcome, shown
 from helpers.git import DEEP, EMPTY_TREE, environment
 from mount_differences import tried
 from mount_folder import (BUILDS, CHANGES, COPIES, ENDINGS, LOOKS, Both, Large, MountGit, asked_for, check_own,
-                          checkout, children, make_many_files, renamed, said_by)
+                          checkout, children, make_many_files, renamed, said_by, told_anywhere)
 from programs import MOUNT_GIT, MOUNTD
 from yakembi import client, kernel
 from yakembi.overlay_files import DIRECTORY, OWN, PLAIN, directory_body, entry_bytes, file_bytes
@@ -172,12 +172,13 @@ def check_background(folder: pathlib.Path, repository: pathlib.Path) -> None:
             check("background: by force", said_by(MOUNT_GIT, "end", "--force", place), (0, []))
     finally:
         kernel.unmount(str(place))
-    check("background: what is told", log.read_text(), f"mounted {place}\n" * 2)
+    told = told_anywhere(log.read_text().splitlines())
+    check("background: what is told", told, [f"mounted {place}"] * 2)
     check("background: nothing to end", said_by(MOUNT_GIT, "end", place),
           (1, [f"mount-git: no mount-git of this user shows {place}"]))
     status, lines = said_by(*words[:-2], "no-such", place)
     check("background: refused", (status, len(lines), lines[0].startswith("mount-git: ")), (1, 1, True))
-    check("background: and told in the file too", log.read_text().splitlines()[2:], lines)
+    check("background: and told in the file too", told_anywhere(log.read_text().splitlines())[2:], lines)
 
 
 def check_second_mount(folder: pathlib.Path, repository: pathlib.Path) -> None:
