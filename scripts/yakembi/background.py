@@ -8,6 +8,7 @@ import sys
 from collections.abc import Callable
 from typing import Any, NoReturn
 
+from yakembi import ending
 from yakembi.git import Refusal
 
 # What comes behind the lines once all is well.
@@ -88,7 +89,7 @@ def wait_for(child: int, pipe: int) -> NoReturn:
     def interrupt(number: int, _: object) -> None:
         with contextlib.suppress(ProcessLookupError):
             os.kill(child, signal.SIGTERM)
-    for number in INTERRUPTS:
+    for number in filter(ending.is_heeded, INTERRUPTS):
         signal.signal(number, interrupt)
     said = b""
     while piece := os.read(pipe, 1 << 16):

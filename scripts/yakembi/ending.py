@@ -39,9 +39,9 @@ def calls(end: Callable[[], object]) -> Iterator[None]:
     """In the block signals call `end`, each time, and behind it they do nothing."""
     for number in filter(is_heeded, SIGNALS):
         signal.signal(number, lambda *_: end())
-    if came:
-        sys.exit(1)
     try:
+        if came:
+            sys.exit(1)
         yield
     finally:
         ignore()
