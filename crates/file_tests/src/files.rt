@@ -2,6 +2,7 @@
 ghost use Rattle.std.specs.Prelude.{◌≤◌};
 
 use crate::folders::{Made, folder_of, make};
+use eden_model::Obstacle;
 use eden_plain_files::{
     Durability, FolderFault, Links, entry_in, read_file, read_within, remove_file, replace_file,
 };
@@ -266,9 +267,23 @@ fn a_replacement_is_a_new_file(rt: HostRuntime) {
     fs::remove_dir_all(&rt, folder.as_path()).expect(&rt, "a folder");
 }
 
-const KINDS: &[(ErrorKind, FolderFault)] = &[
-    (ErrorKind::StorageFull, FolderFault::Device),
-    (ErrorKind::OutOfMemory, FolderFault::Memory),
+// How a call fails, and how a replacement and a removal tell it.
+const KINDS: &[(ErrorKind, FolderFault, FolderFault)] = &[
+    (
+        ErrorKind::StorageFull,
+        FolderFault::Blocked(Obstacle::NoSpace),
+        FolderFault::Device,
+    ),
+    (
+        ErrorKind::OutOfMemory,
+        FolderFault::Memory,
+        FolderFault::Memory,
+    ),
+    (
+        ErrorKind::ConnectionReset,
+        FolderFault::Device,
+        FolderFault::Device,
+    ),
 ];
 
 // Whether a replacement answers that fault, and leaves the file, where one of its calls fails with that kind of error.
@@ -289,14 +304,24 @@ fn keeps_old(
     answer == Err(fault) && holds(rt, path, b"old")
 }
 
-// Whether each step of a change of that file, which has `old`, fails so and leaves it.
-fn changes_fail(rt: &HostRuntime, path: &str, kind: ErrorKind, fault: FolderFault) -> bool {
-    for call in [Call::Open, Call::Write, Call::Sync, Call::Rename] {
-        if !keeps_old(rt, path, call, kind, fault) {
+// Whether each step of a replacement of that file, which has `old`, fails so and leaves it.
+fn replacements_fail(rt: &HostRuntime, path: &str, kind: ErrorKind, fault: FolderFault) -> bool {
+    for call in &[Call::Open, Call::Write, Call::Sync, Call::Rename] {
+        if !keeps_old(rt, path, *call, kind, fault) {
             return false;
         }
     }
+    true
+}
+
+fn removal_fails(rt: &HostRuntime, path: &str, kind: ErrorKind, fault: FolderFault) -> bool {
     remove_file(&system(rt, Call::Remove, kind, None), path) == Err(fault)
+}
+
+// Whether the file gets the bytes `old`.
+fn becomes_old(rt: &HostRuntime, path: &str) -> bool {
+    let old = &[b"old".as_slice()];
+    replace_file(rt, rt.alloc(), path, old, Durability::Written) == Ok(())
 }
 
 // Whether the file goes, or is gone already.
@@ -308,17 +333,10 @@ fn is_removed(rt: &HostRuntime, path: &str) -> bool {
 fn failed_changes_are_told(rt: HostRuntime) {
     let folder = folder_of(&rt, "failed-changes", &[]).expect(&rt, "a folder");
     let file = folder.join(rt.alloc(), "file").expect(&rt, "memory");
-    assert!(rt;
-        replace_file(
-            &rt,
-            rt.alloc(),
-            file.as_str(),
-            &[b"old".as_slice()],
-            Durability::Written
-        ) == Ok(())
-    );
-    for (kind, fault) in KINDS {
-        assert!(rt; changes_fail(&rt, file.as_str(), *kind, *fault));
+    assert!(rt; becomes_old(&rt, file.as_str()));
+    for (kind, of_replacement, of_removal) in KINDS {
+        assert!(rt; replacements_fail(&rt, file.as_str(), *kind, *of_replacement));
+        assert!(rt; removal_fails(&rt, file.as_str(), *kind, *of_removal));
     }
     assert!(rt; is_removed(&rt, file.as_str()));
     assert!(rt; is_removed(&rt, file.as_str()));
