@@ -272,7 +272,11 @@ class FolderModel:
         return as_path(tuple(reversed(names)))
 
     def child(self, node: int, name: bytes) -> Path:
-        path = self.path(node)
+        """The path of a name in a directory. In one that was removed there is none."""
+        try:
+            path = self.path(node)
+        except Refused as refusal:
+            raise Refused("ENOENT" if refusal.args[0] == "ESTALE" else refusal.args[0]) from None
         need(is_name(name), "EINVAL")
         need(len(name) <= LONGEST_NAME, "ENAMETOOLONG")
         return as_path(path + (name,))
@@ -463,7 +467,11 @@ class FolderModel:
 
     def readdir(self, node: int, handle: int, offset: int, size: int, *_: int) -> bytes:
         after = self.after(handle, offset)
-        path = self.path(node)
+        try:
+            path = self.path(node)
+        except Refused as refusal:
+            need(refusal.args[0] == "ESTALE", refusal.args[0])
+            return b""
         need(self.tree.present(path)[0] == "dir", "ENOTDIR")
         names = [name for name in self.tree.children(path) if after is None or name > after][:MOST_ENTRIES]
         if handle in self.pages:

@@ -16,8 +16,8 @@ from collections.abc import Sequence
 from typing import Any, Self
 
 from checks import PATIENCE, check, doing, git, status_of
-from message_model import (ANSWER, FORGOTTEN, HEADER, HIDDEN, LAYOUTS, ROOT, SHAPES, WORDS, WRITTEN, FolderModel,
-                           answered, framed, hidden_name, read_message, spelled, wants_answer)
+from message_model import (ANSWER, FORGOTTEN, HEADER, HIDDEN, LAYOUTS, OPENED, ROOT, SHAPES, WORDS, WRITTEN,
+                           FolderModel, answered, framed, hidden_name, read_message, spelled, wants_answer)
 from overlays import CLOSED, Commit, Place, check_closed, make_commit
 from programs import MOUNTD, SAMPLE_OBJECTS, SAMPLE_ROOT
 from yakembi.overlay_files import Shown
@@ -146,14 +146,18 @@ MALFORMED = [
 BAD_NAMES = [("no byte", b"", "EINVAL"), ("the folder itself", b".", "EINVAL"), ("the folder above", b"..", "EINVAL"),
              ("a slash", b"a/b", "EINVAL"), ("256 bytes", b"n" * 256, "ENAMETOOLONG")]
 
-# Requests that go to a node, and one of a name in it.
+# Requests that go to a node.
 OF_NODES: list[tuple[str, tuple[Any, ...]]] = [
     ("getattr", (0, 0, 0)), ("setattr", (0,) * 16), ("readlink", ()), ("open", (0, 0)), ("opendir", (0, 0)),
-    ("read", (0, 0, 9, 0, 0, 0, 0)), ("readdir", (0, 0, 99, 0, 0, 0, 0)),
+    ("read", (0, 0, 9, 0, 0, 0, 0)), ("fallocate", (0, 0, 9, 0, 0)),
+]
+# .. to a name in it.
+OF_NAMES: list[tuple[str, tuple[Any, ...]]] = [
     ("lookup", (b"a",)), ("mknod", (0o100644, 0, 0, 0, b"a")), ("mkdir", (0o755, 0, b"a")), ("unlink", (b"a",)),
     ("rmdir", (b"a",)), ("symlink", (b"a", b"b")), ("create", (0, 0o644, 0, 0, b"a")), ("rename", (ROOT, b"a", b"b")),
-    ("rename2", (ROOT, 1, 0, b"a", b"b")), ("fallocate", (0, 0, 9, 0, 0)),
+    ("rename2", (ROOT, 1, 0, b"a", b"b")),
 ]
+READDIR = ("readdir", (0, 0, 99, 0, 0, 0, 0))
 LAST_NUMBER = (1 << 64) - 1
 NODES = [0, 2, 99, LAST_NUMBER]
 # What is written waits, and isn't looked for until it is stored: so these are refused once something was written.
@@ -186,6 +190,7 @@ def check_rows(folder: pathlib.Path) -> None:
             for word, fields in OF_NODES:
                 check(f"unknown node {node}: {word}", kernel.asked(spelled(word, 9, unknown, *fields)),
                       answered(9, "ESTALE"))
+            check_absent(f"unknown node {node}", kernel, unknown)
             check(f"unknown node {node}: write", kernel.asked(writing(unknown, b"x")),
                   answered(5, None, WRITTEN.pack(1, 0)))
             for word, fields in AFTER_A_WRITE:
@@ -194,6 +199,36 @@ def check_rows(folder: pathlib.Path) -> None:
         check("rows: as before", kernel.asked(LOOKUP), found)
         # What was written to nodes that aren't known is lost.
         check("rows: the end", kernel.end(), (4, b"mountd: store ESTALE\n"))
+
+
+def check_absent(name: str, kernel: Kernel, node: int) -> None:
+    """Of a node that lies nowhere no name is there, nothing is moved to it, and its listing is at its end."""
+    for word, fields in OF_NAMES:
+        check(f"{name}: {word}", kernel.asked(spelled(word, 9, node, *fields)), answered(9, "ENOENT"))
+    for word, fields in (("rename", (node, b"test.txt", b"b")), ("rename2", (node, 1, 0, b"test.txt", b"b"))):
+        check(f"{name}: {word} to it", kernel.asked(spelled(word, 9, ROOT, *fields)), answered(9, "ENOENT"))
+    check(f"{name}: its listing", kernel.asked(spelled(READDIR[0], 9, node, *READDIR[1])), answered(9, None))
+
+
+def check_removed(folder: pathlib.Path) -> None:
+    """A directory that was removed while it is open: no name is there, and it lists nothing; what is asked of itself is
+    refused. One that stands beside it stays as it was."""
+    with show_sample() as kernel:
+        kernel.asked(STARTS)
+        node, other = [number_in(kernel.asked(spelled("mkdir", 9, ROOT, 0o755, 0, name)))
+                       for name in (b"gone", b"other")]
+        opened = OPENED.unpack(kernel.asked(spelled("opendir", 9, node, 0, 0))[ANSWER.size:])
+        check("removed: by its name", kernel.asked(spelled("rmdir", 9, ROOT, b"gone")), answered(9, None))
+        check_absent("removed", kernel, node)
+        again = spelled("readdir", 9, node, opened[0], 0, 4_096, 0, 0, 0, 0)
+        check("removed: the listing of one that is open", kernel.asked(again), answered(9, None))
+        for word, fields in OF_NODES[:2]:
+            check(f"removed: {word}", kernel.asked(spelled(word, 9, node, *fields)), answered(9, "ESTALE"))
+        into = spelled("rename", 9, ROOT, node, b"other", b"b")
+        check("removed: another is moved to it", kernel.asked(into), answered(9, "ENOENT"))
+        found = kernel.asked(spelled("lookup", 9, ROOT, b"other"))
+        check("removed: the other is there", number_in(found), other)
+        check("removed: the end", kernel.end(), (0, b""))
 
 
 def number_in(entry: bytes) -> int:

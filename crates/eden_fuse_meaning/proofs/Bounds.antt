@@ -21,7 +21,7 @@ use Rattle.eden_fuse_meaning.specs.declared.step.Then.{Then}
 use Rattle.eden_fuse_meaning.specs.declared.step.Then.TheVariants as after
 use Rattle.eden_fuse_meaning.specs.declared.step.Step.{Step}
 use Rattle.eden_fuse_meaning.specs.declared.step.Step.TheVariants.{Ask, Tell}
-use Rattle.eden_fuse_meaning.specs.Steps.{refuse, refused, on_path, on_child, child_at, gives_away, set_mode, set_size, show, has, is_exec, is_exclusive, is_file}
+use Rattle.eden_fuse_meaning.specs.Steps.{refuse, refused, on_path, on_listed, on_child, child_at, gives_away, set_mode, set_size, show, has, is_exec, is_exclusive, is_file}
 use Rattle.eden_fuse_meaning.specs.Steps.{makes_file, moves, reach, renames, reserve, on_ok, on_stat, on_kind, or_if, give, count, rows, mark, open_made, open_file, open_dir}
 use Rattle.eden_fuse_meaning.specs.Laws.{most_then, most_asked, EndIsNear, AsksThrice}
 
@@ -184,6 +184,10 @@ within_path n (Err e) f h = omega arith
 within_asked : (at : Result Path ℕ) (q : Path → Request) (t : Path → Then) → ((p : Path) → most_then (t p) ≤ 2) → Within 3 (on_path at (λ p. Ask (q p) (t p)))
 within_asked at q t h = within_path 3 at (λ p. Ask (q p) (t p)) (λ p. let m : most_then (t p) ≤ 2 = h p in omega (arith, m))
 
+within_listed : (at : Result Path ℕ) (q : Path → Request) (t : Path → Then) → ((p : Path) → most_then (t p) ≤ 2) → Within 3 (on_listed at (λ p. Ask (q p) (t p)))
+within_listed (Ok p) q t h = let m : most_then (t p) ≤ 2 = h p in omega (arith, m)
+within_listed (Err e) q t h = within_if 3 (e == 116) (Tell Done) (refuse e) (omega arith) (omega arith)
+
 within_renames : (flags : ℕ) (p q : Path) → Within 3 (renames flags p q)
 within_renames flags p q =
     within_if 3 (flags == 0) (Ask (ask.Rename p q) after.Finish) (if flags == 1 then Ask (ask.Kind q) (after.Free p q) else refuse 22) (omega arith)
@@ -229,7 +233,7 @@ asks_thrice owner at to last (asked.FSync s) = omega arith
 asks_thrice owner at to last (asked.Flush s) = omega arith
 asks_thrice owner at to last (asked.Init s) = omega arith
 asks_thrice owner at to last (asked.OpenDir s) = within_asked at (λ p. ask.Kind p) (λ p. after.OpenDir) (λ p. omega arith)
-asks_thrice owner at to last (asked.ReadDir s) = within_asked at (λ p. ask.List p last most_entries) (λ p. after.List) (λ p. omega arith)
+asks_thrice owner at to last (asked.ReadDir s) = within_listed at (λ p. ask.List p last most_entries) (λ p. after.List) (λ p. omega arith)
 asks_thrice owner at to last (asked.ReleaseDir s) = omega arith
 asks_thrice owner at to last (asked.FSyncDir s) = omega arith
 asks_thrice owner at to last (asked.Access s) = omega arith

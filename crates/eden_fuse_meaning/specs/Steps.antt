@@ -49,13 +49,25 @@ unless (Some e) p = Err (errno_number e)
 abbrev pub child_of : Path → Name → Result Path ℕ
 child_of p n = unless (child_refusal p n) (p ++ n ∷ [])
 
+-- no name is there in a directory that was removed: what is ESTALE (116) of the directory is ENOENT (2) of a name in it
+abbrev pub below : ℕ → ℕ
+below e = if e == 116 then 2 else e
+
 abbrev pub child_at : Result Path ℕ → Name → Result Path ℕ
 child_at (Ok p) n = child_of p n
-child_at (Err e) n = Err e
+child_at (Err e) n = Err (below e)
 
 abbrev pub on_path : Result Path ℕ → (Path → Step) → Step
 on_path (Ok p) f = f p
 on_path (Err e) f = refuse e
+
+-- a directory that was removed has no entry any more: the end of its listing is told at once
+abbrev pub unlisted : ℕ → Step
+unlisted e = if e == 116 then Tell Done else refuse e
+
+abbrev pub on_listed : Result Path ℕ → (Path → Step) → Step
+on_listed (Ok p) f = f p
+on_listed (Err e) f = unlisted e
 
 abbrev pub on_child : Result Path ℕ → Name → (Path → Step) → Step
 on_child at n f = on_path (child_at at n) f
@@ -141,7 +153,7 @@ first owner at to last (asked.FSync s) = Tell Done
 first owner at to last (asked.Flush s) = Tell Done
 first owner at to last (asked.Init s) = Tell Started
 first owner at to last (asked.OpenDir s) = on_path at (λ p. Ask (ask.Kind p) after.OpenDir)
-first owner at to last (asked.ReadDir s) = on_path at (λ p. Ask (ask.List p last most_entries) after.List)
+first owner at to last (asked.ReadDir s) = on_listed at (λ p. Ask (ask.List p last most_entries) after.List)
 first owner at to last (asked.ReleaseDir s) = Tell Done
 first owner at to last (asked.FSyncDir s) = Tell Done
 first owner at to last (asked.Access s) = refuse 38

@@ -12,6 +12,7 @@ ghost use Rattle.eden_fuse_meaning.specs.Steps.{
   makes_file,
   moves,
   on_child,
+  on_listed,
   on_path,
   refuse,
   renames,
@@ -19,9 +20,10 @@ ghost use Rattle.eden_fuse_meaning.specs.Steps.{
   set_mode,
   set_size,
   show,
+  unlisted,
 };
 
-use crate::paths::{child_at, path_at};
+use crate::paths::{ESTALE, child_at, path_at};
 use crate::step::{Outcome, Owner, Step, Then};
 use eden_fuse_format::{CreateIn, FallocateIn, MkNodIn, Operation, ReadIn, SetAttrIn, WriteIn};
 use eden_model::{Bytes, MAX_ENTRIES, MAX_FILE, Name, Path, Request, SharedBytes};
@@ -281,15 +283,25 @@ fn write(
     }
 }
 
+// What is told of a directory without a path: one that was removed has come to its end.
+fn unlisted(errno: u32) -> Step
+    ensures { result ≡ unlisted errno }
+{
+    if errno == ESTALE {
+        return Step::Tell(Outcome::Done);
+    }
+    refuse(errno)
+}
+
 fn read_directory(
     alloc: Global,
     at: &Result<Path, u32>,
     last: &Option<Name>,
 ) -> Result<Step, AllocError>
-    ensures { IfOk result (λ s. s ≡ on_path at.now (λ p. Ask (ask.List p last.now most_entries) after.List)) }
+    ensures { IfOk result (λ s. s ≡ on_listed at.now (λ p. Ask (ask.List p last.now most_entries) after.List)) }
 {
     match path_at(alloc, at)? {
-        Err(errno) => Ok(refuse(errno)),
+        Err(errno) => Ok(unlisted(errno)),
         Ok(path) => {
             let after = match last {
                 None => None,

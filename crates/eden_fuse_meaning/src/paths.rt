@@ -1,9 +1,14 @@
 // Paths of messages, or the numbers of errors.
 ghost use Rattle.std.specs.Prelude.{◌≡◌, IfOk};
-ghost use Rattle.eden_fuse_meaning.specs.Steps.{child_at, child_of};
+ghost use Rattle.eden_fuse_meaning.specs.Steps.{below, child_at, child_of};
 
 use eden_model::{Name, Path, name_refusal};
 use std::alloc::{AllocError, Global};
+
+const ENOENT: u32 = 2;
+
+/// What is asked of a node that lies nowhere is refused so.
+pub(crate) const ESTALE: u32 = 116;
 
 /// The path of a message's node.
 pub(crate) fn path_at(
@@ -36,6 +41,13 @@ fn child_of(alloc: Global, path: &Path, name: &[u8]) -> Result<Result<Path, u32>
     }
 }
 
+// The number of the error with which a name is refused that is below a node without a path.
+fn below(errno: u32) -> u32
+    ensures { result ≡ below errno }
+{
+    if errno == ESTALE { ENOENT } else { errno }
+}
+
 /// The path of a name below a message's node.
 pub(crate) fn child_at(
     alloc: Global,
@@ -46,6 +58,6 @@ pub(crate) fn child_at(
 {
     match at {
         Ok(path) => child_of(alloc, path, name),
-        Err(errno) => Ok(Err(*errno)),
+        Err(errno) => Ok(Err(below(*errno))),
     }
 }

@@ -26,10 +26,12 @@ fn path_of(rt: &(impl AllocGlobal + Abort), text: &str) -> Path {
     Path::new(names).expect(rt, "a path")
 }
 
-// .. or nowhere, for `?`.
+// .. or nowhere, for `?`; or below more names than a path may have, for `far`.
 fn path(rt: &(impl AllocGlobal + Abort), text: &str) -> Result<Path, u32> {
     if text == "?" {
         Err(116)
+    } else if text == "far" {
+        Err(36)
     } else {
         Ok(path_of(rt, text))
     }
@@ -229,11 +231,16 @@ fn reply(rt: &(impl AllocGlobal + Abort), request: &Request) -> Reply {
 }
 
 // The first step of an operation on the node of that name. A directory is read on after `file`, and a rename goes to
-// `dir`.
-fn first_of(rt: &(impl AllocGlobal + Abort), at: &str, operation: &Operation<'_>) -> Step {
+// the other.
+fn first_of(
+    rt: &(impl AllocGlobal + Abort),
+    at: &str,
+    other: &str,
+    operation: &Operation<'_>,
+) -> Step {
     let last = Some(name(rt, "file"));
     let node = path(rt, at);
-    let to = path(rt, "dir");
+    let to = path(rt, other);
     first(rt.alloc(), OWNER, &node, &to, &last, operation).expect(rt, "memory")
 }
 
@@ -279,10 +286,12 @@ impl Course {
     }
 }
 
-// Whether these are the requests of an operation on the node of that name, and what it comes to.
-fn is_told(
+// Whether these are the requests of an operation on the node of that name, by which a rename goes to the other, and
+// what it comes to.
+fn is_told_of(
     rt: &(impl AllocGlobal + Abort),
     at: &str,
+    other: &str,
     operation: &Operation<'_>,
     want: &str,
 ) -> bool {
@@ -290,8 +299,18 @@ fn is_told(
         text: Vec::new(rt.alloc()),
         is_over: false,
     };
-    course.run(rt, first_of(rt, at, operation));
+    course.run(rt, first_of(rt, at, other, operation));
     course.text.as_slice() == want.as_bytes()
+}
+
+// .. a rename goes to `dir`.
+fn is_told(
+    rt: &(impl AllocGlobal + Abort),
+    at: &str,
+    operation: &Operation<'_>,
+    want: &str,
+) -> bool {
+    is_told_of(rt, at, "dir", operation, want)
 }
 
 fn setting(valid: u32, mode: u32, uid: u32) -> SetAttrIn {
@@ -469,7 +488,27 @@ const TOLD: &[(&str, Operation<'static>, &str)] = &[
     ("", Operation::Lookup(b"none"), "stat /none; absent"),
     ("", Operation::Lookup(b"lost"), "stat /lost; refused 5"),
     ("", Operation::Lookup(b".."), "refused 22"),
-    ("?", Operation::Lookup(b"file"), "refused 116"),
+    ("?", Operation::Lookup(b"file"), "refused 2"),
+    ("?", Operation::Symlink(b"made", b"to"), "refused 2"),
+    ("?", Operation::MkNod(FILE, b"made"), "refused 2"),
+    ("?", Operation::MkDir(DIRECTORY, b"made"), "refused 2"),
+    ("?", Operation::Unlink(b"file"), "refused 2"),
+    ("?", Operation::RmDir(b"dir"), "refused 2"),
+    ("?", Operation::Create(MAKING_NEW, b"made"), "refused 2"),
+    (
+        "?",
+        Operation::Rename(MOVING, b"file", b"none"),
+        "refused 2",
+    ),
+    (
+        "?",
+        Operation::Rename2(MOVING_IF_FREE, b"file", b"none"),
+        "refused 2",
+    ),
+    ("?", Operation::ReadDir(READING), "done"),
+    ("?", Operation::OpenDir(OPENING), "refused 116"),
+    ("?", Operation::Open(OPENING), "refused 116"),
+    ("?", Operation::Read(READING), "refused 116"),
     ("link", Operation::ReadLink, "readlink /link; bytes target"),
     (
         "",
@@ -590,4 +629,33 @@ fn operations_ask_and_are_told(rt: HostRuntime) {
         fh: 0,
     });
     assert!(rt; is_told(&rt, "", &node, "stat ; shown dir 5 70"));
+}
+
+// To a directory that was removed nothing is moved, and from there neither; what is too far away is refused as such.
+#[test]
+fn nothing_moves_to_a_removed_directory(rt: HostRuntime) {
+    let move_file = Operation::Rename(MOVING, b"file", b"none");
+    let move_if_free = Operation::Rename2(MOVING_IF_FREE, b"file", b"none");
+    for operation in [move_file, move_if_free] {
+        assert!(rt;
+            is_told_of(&rt, "", "?", &operation, "refused 2"),
+            "to there"
+        );
+        assert!(rt;
+            is_told_of(&rt, "?", "", &operation, "refused 2"),
+            "from there"
+        );
+        assert!(rt;
+            is_told_of(&rt, "", "far", &operation, "refused 36"),
+            "too far"
+        );
+    }
+    assert!(rt;
+        is_told(&rt, "far", &Operation::Lookup(b"file"), "refused 36"),
+        "a name"
+    );
+    assert!(rt;
+        is_told(&rt, "far", &Operation::ReadDir(READING), "refused 36"),
+        "a listing"
+    );
 }
