@@ -12,7 +12,7 @@ from collections.abc import Iterator
 from typing import Any, NamedTuple
 
 from folder_operations import LONGEST_PATH, MODES, Attributes, attributes
-from message_model import ANSWER, ATTRIBUTES, ENTRY, OPENED, ROOT, ROW, VALID, WRITTEN, spelled
+from message_model import ANSWER, ATTRIBUTES, DOTS, ENTRY, OPENED, ROOT, ROW, VALID, WRITTEN, spelled
 from mount_messages import STARTS, Kernel
 from yakembi.tree_model import LONGEST_DATA, Path
 
@@ -140,7 +140,9 @@ class MessageFolder:
             return rows
 
     def readdir(self, path: Path) -> list[bytes]:
-        return sorted(name for _, name in self.rows(path))
+        names = [name for _, name in self.rows(path)]
+        assert names[: len(DOTS)] == DOTS, f"no listing begins so: {names[: len(DOTS)]}"
+        return sorted(names[len(DOTS):])
 
     def read(self, path: Path, offset: int, length: int) -> bytes:
         with self.opened(path, os.O_RDONLY) as node:

@@ -27,6 +27,8 @@ HIDDEN = b"\xff" * 4
 # For how many seconds the kernel may keep what it is told.
 KEEP = 60
 UNTOLD = 4_294_967_295
+# A directory itself, and the one above it, come before its entries.
+DOTS = [b".", b".."]
 
 HEADER = struct.Struct("<IIQQIIII")
 ANSWER = struct.Struct("<IIQ")
@@ -140,7 +142,7 @@ def answered(unique: int, error: str | None, body: bytes = b"") -> bytes:
 
 
 class Page(NamedTuple):
-    """What an open directory listed last: after so many others, after which name, and which names."""
+    """What an open directory listed last: after so many others, the dots too, after which name, and which names."""
 
     offset: int
     after: bytes | None
@@ -456,7 +458,7 @@ class FolderModel:
 
     def after(self, handle: int, offset: int) -> bytes | None:
         """The name after which an open directory is read on."""
-        if offset == 0:
+        if offset <= len(DOTS):
             return None
         need(handle in self.pages, "EINVAL")
         page = self.pages[handle]
@@ -475,10 +477,11 @@ class FolderModel:
         need(self.tree.present(path)[0] == "dir", "ENOTDIR")
         names = [name for name in self.tree.children(path) if after is None or name > after][:MOST_ENTRIES]
         if handle in self.pages:
-            self.pages[handle] = Page(offset, after, names)
+            self.pages[handle] = Page(max(offset, len(DOTS)), after, names)
         body = b""
-        for number, name in enumerate(names, offset + 1):
-            row = row_of(number, name, self.tree.kind_word(self.tree.nodes[path + (name,)]))
+        for number, name in enumerate(DOTS[offset:] + names, offset + 1):
+            kind = b"dir" if name in DOTS else self.tree.kind_word(self.tree.nodes[path + (name,)])
+            row = row_of(number, name, kind)
             if not is_veiled((node, name)):
                 if len(body) + len(row) > size:
                     break

@@ -307,6 +307,7 @@ def told(command: str, folder: pathlib.Path, environment: dict[str, str]) -> Tol
 
 LOOKS = [
     ("every name", "find . -print0 | sort -z"),
+    ("every listing with its dots", "ls -aR"),
     ("every kind, mode, length and target", r"find . ! -type d -printf '%y %m %s %p %l\0' | sort -z"),
     ("find by kind and mode", "find . -type l | sort; find . -type f -perm -u+x | sort; find . -type d -empty | sort"),
     ("grep -r", "grep -rn needle . | sort"),

@@ -471,11 +471,12 @@ class RandomMessages:
         return self.random.choice(known) if self.random.random() < 0.95 else self.random.randrange(99)
 
     def readdir(self, _: str) -> Asked:
-        """From the beginning, or from where the last listing has been, or from where none was."""
+        """From the beginning, behind a dot or both, from where the last listing has been, or from where none was."""
         handle = self.handle()
         page = self.model.pages.get(handle)
         told = range(page.offset, page.offset + len(page.names) + 2) if page else range(2)
-        offset = self.random.choice([0, self.random.choice(told), self.random.choice(told), (1 << 62)])
+        offsets = [0, self.random.randrange(1, 3), self.random.choice(told), self.random.choice(told), 1 << 62]
+        offset = self.random.choice(offsets)
         return self.directory(), (handle, offset, self.random.choice([0, 30, 60, 120, 4_096, 65_536]), 0, 0, 0, 0)
 
     readdirplus = readdir

@@ -50,9 +50,25 @@ with_rows node size from (e ∷ es) bytes =
     else (if nat_le (length bytes + length (row_text (from + 1) e.0 e.1)) size
     then with_rows node size (from + 1) es (bytes ++ row_text (from + 1) e.0 e.1) else bytes)
 
+-- ---- `.` and `..`, a directory itself and the one above it, come before its entries, which a mount alone tells; 46 is the dot
+
+abbrev pub itself : Entry
+itself = (46 ∷ [], kinds.Dir)
+
+abbrev pub above : Entry
+above = (46 ∷ 46 ∷ [], kinds.Dir)
+
+-- those of them that come after so many
+abbrev pub dots_after : ℕ → List Entry
+dots_after n = if n == 0 then itself ∷ above ∷ [] else (if n == 1 then above ∷ [] else [])
+
+-- how many come before the first entry of a mount's that is listed from an offset on
+abbrev pub entries_from : ℕ → ℕ
+entries_from offset = if nat_lt offset 2 then 2 else offset
+
 -- ---- open directories, by their handles
 
--- what is known of each: the entries that were listed last, after so many others, and the name before them
+-- what is known of each: the entries that were listed last, after so many others, `.` and `..` with them, and the name before them
 abbrev pub Table : Type 0
 Table = List (ℕ × Page)
 
@@ -84,6 +100,6 @@ name_at page offset =
     if offset == page.from then Some page.before
     else (if nat_lt page.from offset then option_map (λ e. Some e.0) (slice_get page.rows (offset - page.from - 1)) else None)
 
--- .. a directory: at its beginning, or where its last listing has been
+-- .. a directory: at its beginning, up to behind `..`, or where its last listing has been
 abbrev pub last_at : Option Page → ℕ → Option (Option Name)
-last_at page offset = if offset == 0 then Some None else option_and_then (λ p. name_at p offset) page
+last_at page offset = if nat_le offset 2 then Some None else option_and_then (λ p. name_at p offset) page

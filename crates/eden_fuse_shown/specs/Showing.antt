@@ -1,6 +1,6 @@
 -- What a mounted folder answers the kernel's messages, and what that makes of its nodes, of its open directories and of what
 -- waits to be stored.
-use Rattle.std.specs.Prelude.{◌≡◌, ◌⊎◌, ℕ, zero, suc, ◌/◌, ◌^◌, ◌==◌, nat_lt, not, Bool, true, false, List, [], ◌∷◌, length, Option, Some, None}
+use Rattle.std.specs.Prelude.{◌≡◌, ◌⊎◌, ℕ, zero, suc, ◌/◌, ◌^◌, ◌==◌, nat_lt, not, Bool, true, false, List, [], ◌∷◌, ◌++◌, length, Option, Some, None}
 use Rattle.std.specs.Prelude.{Result, Ok, Err, if◌then◌else◌}
 use Rattle.std.specs.List.{slice_get}
 use Rattle.eden_model.specs.declared.request.Request.TheVariants as ask
@@ -37,7 +37,7 @@ use Rattle.eden_fuse_shown.specs.declared.sorts.Sort.{Sort}
 use Rattle.eden_fuse_shown.specs.declared.sorts.Sort.TheVariants as sort
 use Rattle.eden_fuse_shown.specs.declared.times.Moments.{Moments}
 use Rattle.eden_fuse_shown.specs.Attributes.{entry_of, attributes_of, open_file, open_directory, started}
-use Rattle.eden_fuse_shown.specs.Listing.{Entry, with_rows, page_of, last_at, Closes, Turns}
+use Rattle.eden_fuse_shown.specs.Listing.{Entry, with_rows, dots_after, entries_from, page_of, last_at, Closes, Turns}
 use Rattle.eden_fuse_shown.specs.Listing.{Opens as OpensPage}
 use Rattle.eden_fuse_shown.specs.Listing.{Table as Pages}
 use Rattle.eden_fuse_shown.specs.Listing.{IsSame as IsSamePages}
@@ -146,10 +146,11 @@ IsOpened node (asked.OpenDir s) old new opens opens' t = IsSameOpens opens opens
 IsOpened node a old new opens opens' t = IsSamePages old new
     × ((Raises opens opens' node × (t ≡ say (answer.Opened (open_file (flags_of a))))) ⊎ (IsSameOpens opens opens' × (t ≡ refuse 12)))
 
--- rows were listed after that name: the first of them are told, as many as fit; or there is no memory for them
+-- rows were listed after that name: the first of them are told, behind `.` and `..`, as many as fit; or there is no memory for them
 abbrev pub Lists : ℕ → ReadIn → Option Name → List Entry → Pages → Pages → Told → Type 0
 Lists node s last rows old new t =
-    (Turns old new s.fh (record { from = s.offset; before = last; rows = rows }) × (t ≡ Some (0, with_rows node s.size s.offset rows [])))
+    (Turns old new s.fh (record { from = entries_from s.offset; before = last; rows = rows })
+    × (t ≡ Some (0, with_rows node s.size s.offset (dots_after s.offset ++ rows) [])))
     ⊎ (IsSamePages old new × (t ≡ refuse 12))
 
 abbrev pub IsListed : ℕ → Asked → Option Name → List Entry → Pages → Pages → Told → Type 0

@@ -29,7 +29,7 @@ ghost use Rattle.eden_fuse_shown.specs.Showing.{
 
 use crate::attributes::{attributes_of, entry_of, open_directory, open_file, started};
 use crate::changing::{change, enter, enter_open};
-use crate::listing::put_rows;
+use crate::listing::{entries_from, put_listing};
 use crate::manner::Manner;
 use crate::mount::Unheard;
 use crate::opens::Opens;
@@ -249,14 +249,14 @@ fn list_from(
     if read.offset >= MOST_BEFORE || rows.len() as u64 >= MOST_BEFORE {
         return refuse(ENOMEM);
     }
-    if put_rows(node, room, read.size as usize, read.offset, rows.as_slice()).is_err() {
+    if put_listing(node, room, read.size as usize, read.offset, rows.as_slice()).is_err() {
         return refuse(ENOMEM);
     }
     if room.len() >= 1 << 31 {
         return refuse(ENOMEM);
     }
     let page = Page {
-        from: read.offset,
+        from: entries_from(read.offset),
         before: last,
         rows,
     };

@@ -2,6 +2,7 @@
 ghost use Rattle.std.specs.Prelude.{◌≡◌, ℕ, None, IfOk, OnErr};
 ghost use Rattle.eden_fuse_shown.specs.Listing.{Closes, IsSame, Opens, Turns, last_at, name_at, page_of};
 
+use crate::listing::DOTS;
 use eden_model::{Entries, Name};
 use std::alloc::{AllocError, Global};
 use std::collections::BTreeMap;
@@ -10,7 +11,7 @@ use std::marker::Model;
 /// What an open directory listed last.
 #[derive(Drop)]
 pub struct Page {
-    /// How many of its entries came before.
+    /// How many of its entries came before, itself and the one above with them.
     pub from: u64,
     /// The name of the last of them.
     pub before: Option<Name>,
@@ -127,7 +128,7 @@ impl Pages {
     ) -> Result<Option<Option<Name>>, AllocError>
         ensures { IfOk result (λ last. last ≡ last_at (page_of self.now handle) offset) }
     {
-        if offset == 0 {
+        if offset <= DOTS {
             return Ok(Some(None));
         }
         match self.pages.get(&handle) {

@@ -35,6 +35,8 @@ pub(crate) enum Call {
     ShowsNamed(&'static [u8], u64),
     /// How many bytes the rows of the root have.
     Lists(usize),
+    /// The rows of the root from an offset on, of so many bytes at most.
+    Rows(u64, u32, &'static [&'static [u8]]),
     /// It starts.
     Starts,
 }
@@ -99,6 +101,7 @@ impl Caller {
             Call::MakesNone(name) => self.folder.create(name) == 0,
             Call::ShowsNamed(name, size) => self.folder.size_at(name) == size,
             Call::Lists(len) => self.folder.rows_len() == len,
+            Call::Rows(offset, size, rows) => self.folder.lists(offset, size, rows),
             Call::Starts => self.folder.starts(),
             _ => false,
         }

@@ -261,6 +261,8 @@ impl Clock for Still {
 pub(crate) struct Folder {
     shown: Shown<Flat, Still>,
     room: Vec<u8>,
+    // The root's handle, or 0 before it is opened.
+    root: u64,
 }
 
 const MANNER: Manner = Manner {
@@ -329,7 +331,20 @@ pub(crate) fn make_folder(rt: &(impl AllocGlobal + Abort), start: Start) -> Fold
     Folder {
         shown: Shown::new(rt.alloc(), flat, Still, MANNER, times),
         room: Vec::new(rt.alloc()),
+        root: 0,
     }
+}
+
+// Whether bytes are those parts, one behind another.
+fn is_joined(bytes: &[u8], parts: &[&[u8]]) -> bool {
+    let mut rest = bytes;
+    for part in parts {
+        match rest.strip_prefix(*part) {
+            None => return false,
+            Some(behind) => rest = behind,
+        }
+    }
+    rest.is_empty()
 }
 
 impl Folder {
@@ -433,28 +448,44 @@ impl Folder {
         }
     }
 
-    // The handle of the root, or 0.
+    // The handle of the root, which is opened once.
     fn open_root(&mut self) -> u64 {
-        match self.call(1, Operation::OpenDir(OPENING)) {
-            Said::Answers(Answer::Opened(opened)) => opened.fh,
-            _ => 0,
+        if self.root == 0 {
+            if let Said::Answers(Answer::Opened(opened)) = self.call(
+                1,
+                Operation::OpenDir(OPENING),
+            ) {
+                self.root = opened.fh;
+            }
         }
+        self.root
     }
 
-    // How many bytes the rows of the root have.
-    pub(crate) fn rows_len(&mut self) -> usize {
+    // Whether rows of the root are left in the room, of so many bytes at most.
+    fn list(&mut self, offset: u64, size: u32) -> bool {
         let reading = ReadIn {
             fh: self.open_root(),
-            offset: 0,
-            size: 1000,
+            offset,
+            size,
             read_flags: 0,
             lock_owner: 0,
             flags: 0,
         };
-        match self.call(1, Operation::ReadDir(reading)) {
-            Said::Data => self.room.len(),
-            _ => 0,
+        matches!(self.call(1, Operation::ReadDir(reading)), Said::Data)
+    }
+
+    // How many bytes the rows of the root have.
+    pub(crate) fn rows_len(&mut self) -> usize {
+        if self.list(0, 1000) {
+            self.room.len()
+        } else {
+            0
         }
+    }
+
+    // Whether these are the rows of the root from an offset on, of so many bytes at most.
+    pub(crate) fn lists(&mut self, offset: u64, size: u32, rows: &[&[u8]]) -> bool {
+        self.list(offset, size) && is_joined(self.room.as_slice(), rows)
     }
 
     // Whether it starts, for a kernel of that day.

@@ -28,7 +28,7 @@ const REMOVED: &[Call] = &[
     Call::Tells(0, REMOVE_A, 0),
     Call::FindsNone(b"a"),
     Call::FindsNone(b"\xff\xff\xff\xff2"),
-    Call::Lists(32),
+    Call::Lists(96),
     Call::Writes(1, 0, b"world"),
     Call::Reads(1, b"world"),
     Call::Makes(2, b"a"),
@@ -37,7 +37,7 @@ const REMOVED: &[Call] = &[
     Call::Reads(1, b"world"),
     Call::Tells(1, CLOSE, 0),
     Call::ReadsNot(1, b"world"),
-    Call::Lists(64),
+    Call::Lists(128),
 ];
 
 // Still read and written, not seen, and gone with the last close; the name is free at once.
@@ -76,7 +76,7 @@ const REPLACED: &[Call] = &[
     Call::Finds(2, b"b"),
     Call::Reads(2, b"hello"),
     Call::Reads(1, b"world"),
-    Call::Lists(32),
+    Call::Lists(96),
     Call::Tells(1, CLOSE, 0),
 ];
 
@@ -85,7 +85,7 @@ const NOT_REPLACED: &[Call] = &[
     Call::Opens(1),
     Call::Tells(0, A_TO_B, 22),
     Call::FindsAgain(1, b"b"),
-    Call::Lists(64),
+    Call::Lists(128),
     Call::Tells(1, CLOSE, 0),
 ];
 
@@ -107,7 +107,7 @@ const NOT_HIDDEN: &[Call] = &[
     Call::Opens(1),
     Call::Tells(0, Operation::Rename2(MOVING_IF_FREE, b"a", b"b"), 17),
     Call::FindsAgain(1, b"b"),
-    Call::Lists(64),
+    Call::Lists(128),
 ];
 
 // A rename that is to replace nothing hides nothing.
@@ -125,7 +125,7 @@ const A_AND_WHAT_WAS_LEFT: Start = Start {
 };
 
 const LEFT: &[Call] = &[
-    Call::Lists(64),
+    Call::Lists(128),
     Call::Finds(1, b"\xff\xff\xff7"),
     Call::Tells(0, Operation::Lookup(HIDDEN), 2),
     Call::Tells(0, Operation::Unlink(HIDDEN), 1),
@@ -133,7 +133,7 @@ const LEFT: &[Call] = &[
     Call::Tells(0, Operation::Rename(MOVING, HIDDEN, b"b"), 1),
     Call::MakesNone(HIDDEN),
     Call::Starts,
-    Call::Lists(64),
+    Call::Lists(128),
 ];
 
 // No message may name it, and what a run before left goes at the start; names like it are others.

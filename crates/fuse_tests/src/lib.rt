@@ -12,6 +12,8 @@ mod flat;
 #[cfg(test)]
 mod folder;
 #[cfg(test)]
+mod listings;
+#[cfg(test)]
 mod meanings;
 #[cfg(test)]
 mod messages;
