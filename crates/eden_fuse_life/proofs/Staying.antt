@@ -29,14 +29,14 @@ use Rattle.eden_fuse_shown.specs.declared.mount.Unheard.TheVariants as unheard
 use Rattle.eden_fuse_shown.specs.Running.{Hears, Leads}
 use Rattle.eden_fuse_shown.specs.declared.sorts.Sort.{Sort}
 use Rattle.eden_fuse_shown.specs.declared.sorts.Sort.TheVariants as sort
-use Rattle.eden_fuse_shown.specs.Listing.{Entry, page_of, last_at}
+use Rattle.eden_fuse_shown.specs.Listing.{Entry, page_of, kept_at, last_at}
 use Rattle.eden_fuse_shown.specs.Naming.{is_reserved, last_name}
 use Rattle.eden_fuse_shown.specs.Opens.{opens_of, is_last}
 use Rattle.eden_fuse_shown.specs.declared.extents.Gap.{Gap}
 use Rattle.eden_fuse_shown.specs.Reading.{AsksPart, Gathers, ReadsOn, reading}
 use Rattle.eden_fuse_shown.specs.Waiting.{Extent, extent_of, gap_of, may_wait}
 use Rattle.eden_fuse_shown.specs.Waiting.{Table as Waits}
-use Rattle.eden_fuse_shown.specs.Showing.{Showing, Runs, RunsFrom, Reads, RemovesBy, Restores, MovesOver, ReplacesBy, LetsGo, LetsGoLast, ClosesFile}
+use Rattle.eden_fuse_shown.specs.Showing.{Showing, Runs, RunsFrom, ReadsKept, Reads, RemovesBy, Restores, MovesOver, ReplacesBy, LetsGo, LetsGoLast, ClosesFile}
 use Rattle.eden_fuse_shown.specs.Showing.{storing, data_of, IsStored, SettlesWith, Unless, Once, LooksUp, WaitsIf, Finds, BridgesIf, BridgesElse, WritesAnew, WritesApart, Writes, Empties, StoresAll}
 use Rattle.eden_fuse_shown.specs.Showing.{ClearsIf, ClearsRow, ClearsRows, Clears, Starts, Heeds, Takes, rows_in, Shows, Syncs, ShowsBy, sort_of}
 use Rattle.eden_fuse_shown.specs.Showing.{Serves as ServesAs}
@@ -89,9 +89,14 @@ module _ {S : Type 0} (fetched : S → Id → Answer → S → Type 0) {T : Type
   runs_from_keep node a None old new t (same, is) = folder_same old new same
   runs_from_keep node a (Some last) old new t r = runs_keep node a last old new t r
 
+  kept_keeps : (rows : Option (List Entry)) (node : ℕ) (a : Asked) (s : ReadIn) (old new : Folder) (t : Told) → ReadsKept answers rows node a s old t new
+      → Kept old.mount new.mount
+  kept_keeps (Some rows) node a s old new t (same, told) = folder_same old new same
+  kept_keeps None node a s old new t r = runs_from_keep node a (last_at (page_of old.pages s.fh) s.offset) old new t r
+
   reads_keep : (node : ℕ) (a : Asked) (s : ReadIn) (old new : Folder) (t : Told) → Reads answers node a s old t new → Kept old.mount new.mount
   reads_keep node a s old new t r =
-      either (λ e. folder_same old new e.0) (λ g. runs_from_keep node a (last_at (page_of old.pages s.fh) s.offset) old new t g) r
+      either (λ e. folder_same old new e.0) (λ g. kept_keeps (kept_at (page_of old.pages s.fh) s.offset) node a s old new t g) r
 
   -- ---- what waits is stored
 

@@ -1,6 +1,6 @@
 -- Rows of an open directory, and from which name on it is read.
 use Rattle.std.specs.Prelude.{◌≡◌, ℕ, ◌+◌, ◌-◌, ◌==◌, ◌&&◌, nat_le, Bool, nat_lt, List, [], ◌∷◌, ◌++◌, length, Option, Some, None}
-use Rattle.std.specs.Prelude.{option_map, option_and_then, if◌then◌else◌}
+use Rattle.std.specs.Prelude.{option_map, option_and_then, drop, not, true, if◌then◌else◌}
 use Rattle.std.specs.Ordering.{nat_cmp}
 use Rattle.std.specs.BTreeMap.{is_at}
 use Rattle.std.specs.Int.{w32, w64, to_le_bytes}
@@ -68,7 +68,8 @@ entries_from offset = if nat_lt offset 2 then 2 else offset
 
 -- ---- open directories, by their handles
 
--- what is known of each: the entries that were listed last, after so many others, `.` and `..` with them, and the name before them
+-- what is known of each: the entries that were listed last, after so many others, `.` and `..` with them, the name before them, and
+-- whether others come after them
 abbrev pub Table : Type 0
 Table = List (ℕ × Page)
 
@@ -76,7 +77,7 @@ abbrev pub page_of : Table → ℕ → Option Page
 page_of t handle = lookup (is_at (nat_cmp handle)) t
 
 abbrev pub fresh : Page
-fresh = record { from = 0; before = None; rows = [] }
+fresh = record { from = 0; before = None; rows = []; more = true }
 
 abbrev pub IsSame : Table → Table → Type 0
 IsSame old new = (i : ℕ) → page_of new i ≡ page_of old i
@@ -93,6 +94,16 @@ Closes old new handle = (i : ℕ) → page_of new i ≡ (if i == handle then Non
 -- other entries of it were listed, if it is open
 abbrev pub Turns : Table → Table → ℕ → Page → Type 0
 Turns old new handle page = (i : ℕ) → page_of new i ≡ (if i == handle then option_map (λ p. page) (page_of old i) else page_of old i)
+
+-- the entries that a page has from an offset on; at its end none, unless others come after them
+abbrev pub rows_at : Page → ℕ → Option (List Entry)
+rows_at page offset =
+    if nat_le page.from offset && nat_lt offset (page.from + length page.rows) then Some (drop (offset - page.from) page.rows)
+    else (if (offset == page.from + length page.rows) && not page.more then Some [] else None)
+
+-- .. an open directory, which isn't listed anew for them; from its beginning, up to behind `..`, it always is
+abbrev pub kept_at : Option Page → ℕ → Option (List Entry)
+kept_at page offset = if nat_le offset 2 then None else option_and_then (λ p. rows_at p offset) page
 
 -- the name after which a page is read on from an offset: so many entries of the directory come before it
 abbrev pub name_at : Page → ℕ → Option (Option Name)

@@ -37,7 +37,7 @@ use Rattle.eden_fuse_shown.specs.declared.sorts.Sort.{Sort}
 use Rattle.eden_fuse_shown.specs.declared.sorts.Sort.TheVariants as sort
 use Rattle.eden_fuse_shown.specs.declared.times.Moments.{Moments}
 use Rattle.eden_fuse_shown.specs.Attributes.{entry_of, attributes_of, open_file, open_directory, started}
-use Rattle.eden_fuse_shown.specs.Listing.{Entry, with_rows, dots_after, entries_from, page_of, last_at, Closes, Turns}
+use Rattle.eden_fuse_shown.specs.Listing.{Entry, with_rows, dots_after, entries_from, page_of, kept_at, last_at, Closes, Turns}
 use Rattle.eden_fuse_shown.specs.Listing.{Opens as OpensPage}
 use Rattle.eden_fuse_shown.specs.Listing.{Table as Pages}
 use Rattle.eden_fuse_shown.specs.Listing.{IsSame as IsSamePages}
@@ -146,16 +146,20 @@ IsOpened node (asked.OpenDir s) old new opens opens' t = IsSameOpens opens opens
 IsOpened node a old new opens opens' t = IsSamePages old new
     × ((Raises opens opens' node × (t ≡ say (answer.Opened (open_file (flags_of a))))) ⊎ (IsSameOpens opens opens' × (t ≡ refuse 12)))
 
--- rows were listed after that name: the first of them are told, behind `.` and `..`, as many as fit; or there is no memory for them
-abbrev pub Lists : ℕ → ReadIn → Option Name → List Entry → Pages → Pages → Told → Type 0
-Lists node s last rows old new t =
-    (Turns old new s.fh (record { from = entries_from s.offset; before = last; rows = rows })
-    × (t ≡ Some (0, with_rows node s.size s.offset (dots_after s.offset ++ rows) [])))
+-- the first of these entries, behind `.` and `..`, as many as fit
+abbrev pub rows_told : ℕ → ReadIn → List Entry → Told
+rows_told node s rows = Some (0, with_rows node s.size s.offset (dots_after s.offset ++ rows) [])
+
+-- entries were listed after that name, and the first of them are told; or there is no memory for them
+abbrev pub Lists : ℕ → ReadIn → Option Name → List Entry → Bool → Pages → Pages → Told → Type 0
+Lists node s last rows more old new t =
+    (Turns old new s.fh (record { from = entries_from s.offset; before = last; rows = rows; more = more })
+    × (t ≡ rows_told node s rows))
     ⊎ (IsSamePages old new × (t ≡ refuse 12))
 
-abbrev pub IsListed : ℕ → Asked → Option Name → List Entry → Pages → Pages → Told → Type 0
-IsListed node (asked.ReadDir s) last rows old new t = Lists node s last rows old new t
-IsListed node a last rows old new t = IsSamePages old new × (t ≡ refuse 5)
+abbrev pub IsListed : ℕ → Asked → Option Name → List Entry → Bool → Pages → Pages → Told → Type 0
+IsListed node (asked.ReadDir s) last rows more old new t = Lists node s last rows more old new t
+IsListed node a last rows more old new t = IsSamePages old new × (t ≡ refuse 5)
 
 -- .. of a mount that waited for the disk; where that failed, EIO (5)
 abbrev pub synced : Bool → Told
@@ -211,7 +215,7 @@ module _ (m : Manner) (node : ℕ) (a : Asked) (last : Option Name) (nodes nodes
       × IsSamePages pages pages'
   Concludes (Ok (outcome.Bytes bytes)) t = Stay × (t ≡ give bytes)
   Concludes (Ok (outcome.Written n)) t = Stay × (t ≡ count n)
-  Concludes (Ok (outcome.Rows rows more)) t = IsSameNodes nodes nodes' × IsListed node a last rows pages pages' t × IsSameOpens opens opens'
+  Concludes (Ok (outcome.Rows rows more)) t = IsSameNodes nodes nodes' × IsListed node a last rows more pages pages' t × IsSameOpens opens opens'
   Concludes (Ok outcome.Space) t = Stay × (t ≡ say (answer.StatFs m.space))
   Concludes (Ok outcome.Started) t = Stay × (t ≡ start a)
 
@@ -295,8 +299,13 @@ module _ {S : Type 0} (answers : Replying S) where
   RunsFrom node a None old t new = (new ≡ old) × (t ≡ refuse 22)
   RunsFrom node a (Some last) old t new = Runs node a last old t new
 
+  -- what its last listing has from the offset on is told, and nothing is asked; else it is read on
+  abbrev pub ReadsKept : Option (List Entry) → ℕ → Asked → ReadIn → Showing S → Told → Showing S → Type 0
+  ReadsKept (Some rows) node a s old t new = (new ≡ old) × ((t ≡ rows_told node s rows) ⊎ (t ≡ refuse 12))
+  ReadsKept None node a s old t new = RunsFrom node a (last_at (page_of old.pages s.fh) s.offset) old t new
+
   abbrev pub Reads : ℕ → Asked → ReadIn → Showing S → Told → Showing S → Type 0
-  Reads node a s old t new = Starves old t new ⊎ RunsFrom node a (last_at (page_of old.pages s.fh) s.offset) old t new
+  Reads node a s old t new = Starves old t new ⊎ ReadsKept (kept_at (page_of old.pages s.fh) s.offset) node a s old t new
 
   -- nodes alone are forgotten, and nothing is answered
   pub record Loses (old : Showing S) (t : Told) (new : Showing S) (Lost : Type 0) : Type 0 where

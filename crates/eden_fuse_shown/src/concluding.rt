@@ -1,5 +1,5 @@
 // What is answered once it is known what a message came to.
-ghost use Rattle.std.specs.Prelude.{◌≡◌, ℕ, List};
+ghost use Rattle.std.specs.Prelude.{◌≡◌, ◌⊎◌, ℕ, List, true};
 ghost use Rattle.eden_fuse_format.specs.declared.answer.Answer.TheVariants as answer;
 ghost use Rattle.eden_fuse_format.specs.Answers.{IsBrief};
 ghost use Rattle.eden_fuse_format.specs.Asked.{seen};
@@ -22,6 +22,7 @@ ghost use Rattle.eden_fuse_shown.specs.Showing.{
   flags_of,
   give,
   refuse,
+  rows_told,
   say,
   start,
   synced,
@@ -233,6 +234,31 @@ fn give(bytes: Bytes, room: &mut Vec<u8>) -> Said
     Said::Data
 }
 
+/// Tells entries of an open directory.
+pub(crate) fn tell_rows(node: u64, read: &ReadIn, rows: &[(Name, Kind)], room: &mut Vec<u8>) -> Said
+    ensures told { (told result room.new.items ≡ rows_told node read.now rows.now)
+        ⊎ (told result room.new.items ≡ refuse 12) }
+    ensures brief { IsBriefly result room.new.items }
+{
+    if lay_out(node, read, rows, room) {
+        Said::Data
+    } else {
+        refuse(ENOMEM)
+    }
+}
+
+// Leaves the rows in the room; false if there is no memory for them.
+fn lay_out(node: u64, read: &ReadIn, rows: &[(Name, Kind)], room: &mut Vec<u8>) -> bool
+    ensures told { result ≡ true → told Said.Data room.new.items ≡ rows_told node read.now rows.now }
+    ensures brief { result ≡ true → IsBriefly Said.Data room.new.items }
+{
+    room.clear();
+    if read.offset >= MOST_BEFORE || rows.len() as u64 >= MOST_BEFORE {
+        return false;
+    }
+    put_listing(node, room, read.size as usize, read.offset, rows).is_ok() && room.len() < 1 << 31
+}
+
 // Entries of an open directory were listed, and become its page.
 fn list_from(
     pages: &mut Pages,
@@ -240,25 +266,20 @@ fn list_from(
     read: &ReadIn,
     last: Option<Name>,
     rows: Entries,
+    more: bool,
     room: &mut Vec<u8>,
 ) -> Said
-    ensures listed { Lists node read.now last rows pages.old pages.new (told result room.new.items) }
+    ensures listed { Lists node read.now last rows more pages.old pages.new (told result room.new.items) }
     ensures brief { IsBriefly result room.new.items }
 {
-    room.clear();
-    if read.offset >= MOST_BEFORE || rows.len() as u64 >= MOST_BEFORE {
-        return refuse(ENOMEM);
-    }
-    if put_listing(node, room, read.size as usize, read.offset, rows.as_slice()).is_err() {
-        return refuse(ENOMEM);
-    }
-    if room.len() >= 1 << 31 {
+    if !lay_out(node, read, rows.as_slice(), room) {
         return refuse(ENOMEM);
     }
     let page = Page {
         from: entries_from(read.offset),
         before: last,
         rows,
+        more,
     };
     pages.turn(read.fh, page);
     Said::Data
@@ -270,13 +291,14 @@ fn list(
     operation: &Operation<'_>,
     last: Option<Name>,
     rows: Entries,
+    more: bool,
     room: &mut Vec<u8>,
 ) -> Said
-    ensures listed { IsListed node (seen operation.now) last rows pages.old pages.new (told result room.new.items) }
+    ensures listed { IsListed node (seen operation.now) last rows more pages.old pages.new (told result room.new.items) }
     ensures brief { IsBriefly result room.new.items }
 {
     match operation {
-        Operation::ReadDir(read) => list_from(pages, node, read, last, rows, room),
+        Operation::ReadDir(read) => list_from(pages, node, read, last, rows, more, room),
         _ => refuse(EIO),
     }
 }
@@ -329,7 +351,7 @@ pub(crate) fn conclude(
         )),
         Ok(Outcome::Bytes(bytes)) => give(bytes, room),
         Ok(Outcome::Written(written)) => Said::Answers(count(written)),
-        Ok(Outcome::Rows(rows, _)) => list(pages, node, operation, last, rows, room),
+        Ok(Outcome::Rows(rows, more)) => { list(pages, node, operation, last, rows, more, room) }
         Ok(Outcome::Space) => Said::Answers(Answer::StatFs(manner.space)),
         Ok(Outcome::Started) => Said::Answers(start(operation)),
     }

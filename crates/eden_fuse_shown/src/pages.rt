@@ -1,9 +1,20 @@
 // Open directories.
 ghost use Rattle.std.specs.Prelude.{◌≡◌, ℕ, None, IfOk, OnErr};
-ghost use Rattle.eden_fuse_shown.specs.Listing.{Closes, IsSame, Opens, Turns, last_at, name_at, page_of};
+ghost use Rattle.std.specs.Prelude.{option_map};
+ghost use Rattle.eden_fuse_shown.specs.Listing.{
+  Closes,
+  IsSame,
+  Opens,
+  Turns,
+  kept_at,
+  last_at,
+  name_at,
+  page_of,
+  rows_at,
+};
 
 use crate::listing::DOTS;
-use eden_model::{Entries, Name};
+use eden_model::{Entries, Kind, Name};
 use std::alloc::{AllocError, Global};
 use std::collections::BTreeMap;
 use std::marker::Model;
@@ -16,6 +27,8 @@ pub struct Page {
     /// The name of the last of them.
     pub before: Option<Name>,
     pub rows: Entries,
+    /// Whether others come after them.
+    pub more: bool,
 }
 
 /// Directories that are open, by their handles. Contracts see the list of their pages.
@@ -36,6 +49,22 @@ impl Model for Pages {
     ghost view = { λ p. p.pages.entries };
 
     ghost invariant = { λ p. (i : ℕ) (page : Page) → page_of p.pages.entries i ≡ Some page → i < p.next };
+}
+
+// The entries that a page has from the offset on.
+fn rows_at(page: &Page, offset: u64) -> Option<&[(Name, Kind)]>
+    ensures { option_map (λ rows. rows.now) result ≡ rows_at page.now offset }
+{
+    let rows = page.rows.as_slice();
+    let at = offset.checked_sub(page.from)?;
+    if at < rows.len() as u64 {
+        let (_, rest) = rows.split_at(at as usize);
+        return Some(rest);
+    }
+    if at == rows.len() as u64 && !page.more {
+        return Some(&[]);
+    }
+    None
 }
 
 // The name after which a page is read on.
@@ -101,6 +130,7 @@ impl Pages {
             from: 0,
             before: None,
             rows: Entries::new(Vec::new(alloc)),
+            more: true,
         };
         match self.pages.insert(handle, page) {
             Err(_) => Err(AllocError),
@@ -116,6 +146,16 @@ impl Pages {
         ensures { Closes self.old self.new handle }
     {
         leave(&mut self.pages, handle);
+    }
+
+    /// The entries that the last listing of an open directory has from the offset on, or none where it is to be listed.
+    pub fn kept(&self, handle: u64, offset: u64) -> Option<&[(Name, Kind)]>
+        ensures { option_map (λ rows. rows.now) result ≡ kept_at (page_of self.now handle) offset }
+    {
+        if offset <= DOTS {
+            return None;
+        }
+        rows_at(self.pages.get(&handle)?, offset)
     }
 
     /// The name after which an open directory is read on from the offset, or none where it isn't known. The only error

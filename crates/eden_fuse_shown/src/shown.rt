@@ -65,7 +65,7 @@ ghost use Rattle.eden_fuse_shown.specs.Showing.{
 ghost use Rattle.eden_fuse_shown.specs.Waiting.{gap_of, may_wait};
 
 use crate::changing::forget_all;
-use crate::concluding::{conclude, count, failed, refuse, synced};
+use crate::concluding::{conclude, count, failed, refuse, synced, tell_rows};
 use crate::extents::{Extents, Gap};
 use crate::listing::rows_in;
 use crate::looking::look_before;
@@ -487,6 +487,9 @@ impl<M: Mount + Drop, K: Clock + Drop> Shown<M, K> {
         ensures runs { Reads M.answers node (seen operation.now) read self.old (told result room.new.items) self.new }
         ensures brief { IsBriefly result room.new.items }
     {
+        if let Some(rows) = self.pages.kept(read.fh, read.offset) {
+            return tell_rows(node, &read, rows, room);
+        }
         match self.pages.last(self.alloc, read.fh, read.offset) {
             Err(_) => refuse(ENOMEM),
             Ok(None) => refuse(EINVAL),
