@@ -37,7 +37,7 @@ use Rattle.eden_fuse_shown.specs.Reading.{AsksPart, Gathers, ReadsOn, reading}
 use Rattle.eden_fuse_shown.specs.Waiting.{Extent, extent_of, gap_of, may_wait}
 use Rattle.eden_fuse_shown.specs.Waiting.{Table as Waits}
 use Rattle.eden_fuse_shown.specs.Showing.{Showing, Runs, RunsFrom, ReadsKept, Reads, RemovesBy, Restores, MovesOver, ReplacesBy, LetsGo, LetsGoLast, ClosesFile}
-use Rattle.eden_fuse_shown.specs.Showing.{storing, data_of, IsStored, SettlesWith, Unless, Once, LooksUp, WaitsIf, Finds, BridgesIf, BridgesElse, WritesAnew, WritesApart, Writes, Empties, StoresAll}
+use Rattle.eden_fuse_shown.specs.Showing.{storing, data_of, IsStored, SettlesWith, Unless, Once, WaitsIf, Finds, BridgesIf, BridgesElse, WritesAnew, WritesApart, Writes, Empties, StoresAll}
 use Rattle.eden_fuse_shown.specs.Showing.{ClearsIf, ClearsRow, ClearsRows, Clears, Starts, Heeds, Takes, rows_in, Shows, Syncs, ShowsBy, sort_of}
 use Rattle.eden_fuse_shown.specs.Showing.{Serves as ServesAs}
 
@@ -160,12 +160,9 @@ module _ {S : Type 0} (fetched : S → Id → Answer → S → Type 0) {T : Type
         kept_on old.mount mid.mount new.mount (finds_keep (gap_of old.waits node offset bytes) old node old.mount found mid.mount looks.finds)
         (bridges_if_keeps found node offset bytes mid new t rest)
 
-  looks_keep : (looked : ℕ) (node : ℕ) (a : Asked) (old new : Folder) (t : Told) → Once answers (Some looked) (Runs answers node a None) old t new
+  looks_keep : (node : ℕ) (a : Asked) (old new : Folder) (t : Told) → Once answers (Some node) (Runs answers node a None) old t new
       → Kept old.mount new.mount
-  looks_keep looked node a old new t r = once_keeps (Runs answers node a None) (runs_keep node a None) (Some looked) old new t r
-
-  looks_up_keep : (node : ℕ) (a : Asked) (old new : Folder) (t : Told) → LooksUp answers node a old t new → Kept old.mount new.mount
-  looks_up_keep node a old new t (there, is, r) = once_keeps (Runs answers node a None) (runs_keep node a None) there old new t r
+  looks_keep node a old new t r = once_keeps (Runs answers node a None) (runs_keep node a None) (Some node) old new t r
 
   writes_anew_keep : (node offset : ℕ) (a : Asked) (old new : Folder) (t : Told) → WritesAnew answers node offset a old t new → Kept old.mount new.mount
   writes_anew_keep node offset a old new t r =
@@ -257,9 +254,8 @@ module _ {S : Type 0} (fetched : S → Id → Answer → S → Type 0) {T : Type
   serves_one_keep (sort.Replace dir) node a old new t (held, is, r) = replaces_keep held dir node a old new t r
   serves_one_keep sort.Start node a old new t r = starts_keep node a old new t r
   serves_one_keep (sort.Write offset) node a old new t r = writes_keep node offset a old new t r
-  serves_one_keep sort.Look node a old new t r = looks_keep node node a old new t r
+  serves_one_keep sort.Look node a old new t r = looks_keep node a old new t r
   serves_one_keep sort.Sync node a old new t r = once_keeps (Syncs syncs) syncs_keep (Some node) old new t r
-  serves_one_keep sort.LookUp node a old new t r = looks_up_keep node a old new t r
   serves_one_keep (sort.One n) node a old new t r = runs_keep node a None old new t r
   serves_one_keep sort.Batch node a old new t r = runs_keep node a None old new t r
   serves_one_keep (sort.On s) node a old new t r = runs_keep node a None old new t r
@@ -284,7 +280,6 @@ module _ {S : Type 0} (fetched : S → Id → Answer → S → Type 0) {T : Type
   shows_keep (sort.Write offset) node a old new t r = takes_keep (sort.Write offset) node a old new t r
   shows_keep sort.Look node a old new t r = takes_keep sort.Look node a old new t r
   shows_keep sort.Sync node a old new t r = takes_keep sort.Sync node a old new t r
-  shows_keep sort.LookUp node a old new t r = takes_keep sort.LookUp node a old new t r
   shows_keep sort.Plain node a old new t r = takes_keep sort.Plain node a old new t r
 
   does_keep : (m : Message) (old new : Folder) (l k : Line) (room : ℕ) (r : Turned) → Does (Shows answers syncs) m old new l k room r → Kept old.mount new.mount

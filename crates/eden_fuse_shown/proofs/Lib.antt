@@ -9,3 +9,5 @@ mod Stores
 mod SeenLaws
 mod BridgeLaws
 mod Syncing
+pub mod LaidOver
+mod PartsSeen

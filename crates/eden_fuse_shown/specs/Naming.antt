@@ -70,13 +70,7 @@ last_name (asked.Rename s n m) = m
 last_name (asked.Rename2 s n m) = m
 last_name a = []
 
--- the node that stands at a place, if one does
-abbrev pub IsAt : Nodes → Option Place → Option ℕ → Type 0
-IsAt nodes None there = there ≡ None
-IsAt nodes (Some p) None = IsBare nodes p
-IsAt nodes (Some p) (Some id) = StandsAlone nodes id p
-
--- .. and is open
+-- the node that stands at a place and is open, if one does
 abbrev pub IsHeld : Nodes → Opens → Option Place → Option ℕ → Type 0
 IsHeld nodes opens None held = held ≡ None
 IsHeld nodes opens (Some p) None = IsBare nodes p ⊎ ((id : ℕ) × StandsAlone nodes id p × (opens_of opens id ≡ None))

@@ -1,5 +1,6 @@
 -- The tree as it is seen through a folder: the mount's, with what waits to be stored in it.
-use Rattle.std.specs.Prelude.{◌≡◌, ◌==◌, ◌&&◌, ℕ, Bool, true, false, List, [], ◌∷◌, length, reverse, Option, Some, None, option_map, Result, Ok, Err}
+use Rattle.std.specs.Prelude.{◌≡◌, ◌==◌, ◌&&◌, ◌≤◌, ◌+◌, ℕ, Bool, true, false, List, [], ◌∷◌, drop, length, reverse, take}
+use Rattle.std.specs.Prelude.{Option, Some, None, option_map, Result, Ok, Err}
 use Rattle.std.specs.Map.{lookup}
 use Rattle.std.specs.Str.{bytes_eq}
 use Rattle.eden_model.specs.declared.fault.CallFault.{CallFault}
@@ -9,6 +10,7 @@ use Rattle.eden_model.specs.declared.reply.Reply.TheVariants as say
 use Rattle.eden_model.specs.declared.request.Request.{Request}
 use Rattle.eden_model.specs.declared.request.Request.TheVariants as ask
 use Rattle.eden_model.specs.Histories.{fault_of}
+use Rattle.eden_model.specs.Limits.{most_file}
 use Rattle.eden_model.specs.Operations.{Replies, after, with_content, written}
 use Rattle.eden_model.specs.Trees.{Name, Path, Tree}
 use Rattle.eden_fuse_format.specs.declared.message.Header.{Header}
@@ -22,7 +24,7 @@ use Rattle.eden_fuse_session.specs.Turns.{Told}
 use Rattle.eden_fuse_shown.specs.Running.{Replying, Syncing}
 use Rattle.eden_fuse_shown.specs.declared.extents.Gap.{Gap}
 use Rattle.eden_fuse_shown.specs.Showing.{Showing, Joins, JoinsOver, LooksBetween, Settles, Shows, failed}
-use Rattle.eden_fuse_shown.specs.Waiting.{Extent, can_join, extent_of, gap_of}
+use Rattle.eden_fuse_shown.specs.Waiting.{Extent, can_join, extent_of, gap_of, seen_length, seen_part}
 use Rattle.eden_fuse_shown.specs.Waiting.{Table as Waits}
 
 -- ---- the node at a path
@@ -55,6 +57,16 @@ abbrev pub seen_tree : Tree → Nodes → Waits → Tree
 seen_tree F nodes waits p = with_waiting (waits_at nodes waits p) (F p)
 
 -- ---- laws
+
+-- a file's length is told as what is seen has it
+abbrev pub LengthsAsSeen : Type 0
+LengthsAsSeen = (e : Extent) (content : List ℕ) → e.from + length e.bytes ≤ most_file
+    → seen_length (Some e) (length content) ≡ length (written e.from e.bytes content)
+
+-- .. and so is a part of it that is read
+abbrev pub PartsAsSeen : Type 0
+PartsAsSeen = (e : Extent) (content : List ℕ) (from count : ℕ)
+    → seen_part (Some e) from count (take count (drop from content)) ≡ take count (drop from (written e.from e.bytes content))
 
 -- the test says where a node lies
 abbrev pub LiesAsTold : Type 0

@@ -3,11 +3,13 @@
 use Rattle.std.specs.Prelude.{◌≡◌, ◌⊎◌, ℕ, zero, suc, ◌/◌, ◌^◌, ◌==◌, nat_lt, not, Bool, true, false, List, [], ◌∷◌, ◌++◌, length, Option, Some, None}
 use Rattle.std.specs.Prelude.{Result, Ok, Err, if◌then◌else◌}
 use Rattle.std.specs.List.{slice_get}
+use Rattle.eden_model.specs.declared.kind.Kind.{Kind}
 use Rattle.eden_model.specs.declared.request.Request.TheVariants as ask
 use Rattle.eden_model.specs.Faults.{obstacle_number}
 use Rattle.eden_model.specs.Trees.{Name, Path}
 use Rattle.eden_fuse_format.specs.declared.answer.Answer.{Answer}
 use Rattle.eden_fuse_format.specs.declared.answer.Answer.TheVariants as answer
+use Rattle.eden_fuse_format.specs.declared.answer.EntryOut.{EntryOut}
 use Rattle.eden_fuse_format.specs.declared.message.Header.{Header}
 use Rattle.eden_fuse_format.specs.declared.structs.ForgetOne.{ForgetOne}
 use Rattle.eden_fuse_format.specs.declared.structs.ReadIn.{ReadIn}
@@ -41,13 +43,13 @@ use Rattle.eden_fuse_shown.specs.Listing.{Entry, with_rows, dots_after, entries_
 use Rattle.eden_fuse_shown.specs.Listing.{Opens as OpensPage}
 use Rattle.eden_fuse_shown.specs.Listing.{Table as Pages}
 use Rattle.eden_fuse_shown.specs.Listing.{IsSame as IsSamePages}
-use Rattle.eden_fuse_shown.specs.Naming.{named, goal_of, other_node, veiled_name, is_reserved, denial, last_name, IsAt, IsHeld}
+use Rattle.eden_fuse_shown.specs.Naming.{named, goal_of, other_node, veiled_name, is_reserved, denial, last_name, IsHeld}
 use Rattle.eden_fuse_shown.specs.Opens.{Raises, Lowers, opens_of, is_last}
 use Rattle.eden_fuse_shown.specs.Opens.{Table as Opens}
 use Rattle.eden_fuse_shown.specs.Opens.{IsSame as IsSameOpens}
 use Rattle.eden_fuse_shown.specs.Reading.{Gathers}
 use Rattle.eden_fuse_shown.specs.Running.{Replying, Syncing, Comes}
-use Rattle.eden_fuse_shown.specs.Waiting.{Extent, Adds, Bridges, Ends, extent_of, gap_of, may_wait}
+use Rattle.eden_fuse_shown.specs.Waiting.{Extent, Adds, Bridges, Ends, extent_of, seen_length, seen_part, gap_of, may_wait}
 use Rattle.eden_fuse_shown.specs.Waiting.{Table as Waits}
 
 -- a mounted folder: the mount, how it is shown, the nodes that the kernel was told of, the directories and files that are open,
@@ -194,8 +196,17 @@ Leaves (Some errno) node old new = new ≡ old
 
 -- ---- what is answered once it is known what a message came to
 
+-- a node that was found or made, as it is seen with what waits for it
+abbrev pub entry_at : Manner → Waits → Kind → ℕ → ℕ → ℕ → Moments → EntryOut
+entry_at m waits kind size inode id at = entry_of m id inode at kind (seen_length (extent_of waits id) size)
+
+-- of the bytes that the mount told of a node, for which that waits
+abbrev pub seen_bytes : Asked → Option Extent → List ℕ → List ℕ
+seen_bytes (asked.Read s) waiting bytes = seen_part waiting s.offset s.size bytes
+seen_bytes a waiting bytes = bytes
+
 module _ (m : Manner) (node : ℕ) (a : Asked) (last : Option Name) (nodes nodes' : Nodes) (pages pages' : Pages)
-    (opens opens' : Opens) where
+    (opens opens' : Opens) (waits : Waits) where
   abbrev pub Stay : Type 0
   Stay = IsSameNodes nodes nodes' × IsSamePages pages pages' × IsSameOpens opens opens'
 
@@ -206,14 +217,15 @@ module _ (m : Manner) (node : ℕ) (a : Asked) (last : Option Name) (nodes nodes
   Concludes (Ok outcome.Done) t = Changes node a nodes nodes' × Shuts a pages pages' × IsSameOpens opens opens' × (t ≡ say answer.Done)
   Concludes (Ok outcome.Absent) t = Stay × (t ≡ say (answer.NoEntry m.keep))
   Concludes (Ok (outcome.Found kind size inode)) t =
-      Enters (named node a) (λ id at. answer.Entry (entry_of m id inode at kind size)) nodes nodes' t × IsSamePages pages pages' × IsSameOpens opens opens'
+      Enters (named node a) (λ id at. answer.Entry (entry_at m waits kind size inode id at)) nodes nodes' t
+      × IsSamePages pages pages' × IsSameOpens opens opens'
   Concludes (Ok (outcome.Attributes kind size inode)) t =
-      Stay × ((at : Moments) × (t ≡ say (answer.Attributes (attributes_of m inode at kind size))))
+      Stay × ((at : Moments) × (t ≡ say (answer.Attributes (attributes_of m inode at kind (seen_length (extent_of waits node) size)))))
   Concludes (Ok outcome.Opened) t = IsSameNodes nodes nodes' × IsOpened node a pages pages' opens opens' t
   Concludes (Ok (outcome.Made kind size inode)) t =
-      EntersOpen (named node a) (λ id at. answer.Created (entry_of m id inode at kind size) (open_file (flags_of a))) nodes nodes' opens opens' t
+      EntersOpen (named node a) (λ id at. answer.Created (entry_at m waits kind size inode id at) (open_file (flags_of a))) nodes nodes' opens opens' t
       × IsSamePages pages pages'
-  Concludes (Ok (outcome.Bytes bytes)) t = Stay × (t ≡ give bytes)
+  Concludes (Ok (outcome.Bytes bytes)) t = Stay × ((t ≡ give (seen_bytes a (extent_of waits node) bytes)) ⊎ (t ≡ refuse 12))
   Concludes (Ok (outcome.Written n)) t = Stay × (t ≡ count n)
   Concludes (Ok (outcome.Rows rows more)) t = IsSameNodes nodes nodes' × IsListed node a last rows more pages pages' t × IsSameOpens opens opens'
   Concludes (Ok outcome.Space) t = Stay × (t ≡ say (answer.StatFs m.space))
@@ -238,23 +250,19 @@ pub record Begins (owner : Owner) (nodes : Nodes) (node : ℕ) (a : Asked) (last
   pub is_other : IsOtherPath nodes (other_node a) to
   pub is : step ≡ first owner at to last a
 
--- what has to be done for a message beside what it asks. Those that tell of a file's content, or set it, and those by which a
--- program learns that it is stored, look at what waits; those by which it learns that no loss of power takes it wait for the disk
+-- what has to be done for a message beside what it asks. Before those that set a file's attributes, and those by which a program
+-- learns that it is stored, what waits is stored; those by which it learns that no loss of power takes it wait for the disk
 abbrev pub sort_of : Asked → Sort
 sort_of (asked.Forget s) = sort.One s.nlookup
 sort_of (asked.BatchForget b) = sort.Batch
 sort_of (asked.ReadDir s) = sort.On s
 sort_of (asked.Release s) = sort.Close
 sort_of (asked.Write s b) = sort.Write s.offset
-sort_of (asked.GetAttr s) = sort.Look
 sort_of (asked.SetAttr s) = sort.Look
-sort_of (asked.Read s) = sort.Look
 sort_of (asked.Flush s) = sort.Look
 sort_of (asked.FSync s) = sort.Sync
 sort_of (asked.FSyncDir s) = sort.Sync
 sort_of (asked.Fallocate s) = sort.Look
-sort_of (asked.Lookup n) = sort.LookUp
-sort_of (asked.Create s n) = sort.LookUp
 sort_of (asked.Init s) = sort.Start
 sort_of (asked.Unlink n) = sort.Remove
 sort_of (asked.Rename s n m) = sort.Replace s.newdir
@@ -287,7 +295,7 @@ module _ {S : Type 0} (answers : Replying S) where
     pub begins : Begins old.manner.owner old.nodes node a last step
     pub end : Result Outcome Unheard
     pub comes : Comes answers step old.mount end new.mount
-    pub concludes : Concludes old.manner node a last old.nodes new.nodes old.pages new.pages old.opens new.opens end t
+    pub concludes : Concludes old.manner node a last old.nodes new.nodes old.pages new.pages old.opens new.opens old.waits end t
     pub manner : new.manner ≡ old.manner
     pub waits : new.waits ≡ old.waits
 
@@ -350,10 +358,6 @@ module _ {S : Type 0} (answers : Replying S) where
   abbrev pub Once : Option ℕ → (Showing S → Told → Showing S → Type 0) → Showing S → Told → Showing S → Type 0
   Once None Done old t new = Done old t new
   Once (Some node) Done old t new = (why : Option ℕ) × (mid : Showing S) × Settles node old why mid × Unless why Done mid t new
-
-  -- .. for the node that stands at the place that a message names
-  abbrev pub LooksUp : ℕ → Asked → Showing S → Told → Showing S → Type 0
-  LooksUp node a old t new = (there : Option ℕ) × IsAt old.nodes (named node a) there × Once there (Runs node a None) old t new
 
   -- ---- what is written
 
@@ -544,7 +548,6 @@ module _ {S : Type 0} (answers : Replying S) (syncs : Syncing S) where
   abbrev pub Serves : Sort → ℕ → Asked → Showing S → Told → Showing S → Type 0
   Serves sort.Look node a old t new = Once answers (Some node) (Runs answers node a None) old t new
   Serves sort.Sync node a old t new = Once answers (Some node) (Syncs syncs) old t new
-  Serves sort.LookUp node a old t new = LooksUp answers node a old t new
   Serves (sort.Write offset) node a old t new = Writes answers node offset a old t new
   Serves sort.Remove node a old t new = RemovesHeld answers node a old t new
   Serves (sort.Replace dir) node a old t new = ReplacesHeld answers dir node a old t new

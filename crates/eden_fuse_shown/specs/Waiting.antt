@@ -1,5 +1,6 @@
 -- Bytes that were answered and aren't stored yet: of each file at most one extent, by its node.
 use Rattle.std.specs.Prelude.{◌≡◌, ℕ, ◌+◌, ◌-◌, ◌==◌, ◌&&◌, nat_le, nat_lt, not, Bool, true, List, ◌++◌, length, Option, Some, None, if◌then◌else◌}
+use Rattle.std.specs.Prelude.{drop, max, take}
 use Rattle.std.specs.Ordering.{nat_cmp}
 use Rattle.std.specs.BTreeMap.{is_at}
 use Rattle.std.specs.List.{sum_by}
@@ -19,6 +20,21 @@ Table = List (ℕ × Extent)
 -- what waits for a node
 abbrev pub extent_of : Table → ℕ → Option Extent
 extent_of t i = lookup (is_at (nat_cmp i)) t
+
+-- ---- what is seen of a file, where that is what a mount tells of it
+
+-- how long it is, with what waits for it; no file is longer than the longest
+abbrev pub seen_length : Option Extent → ℕ → ℕ
+seen_length None size = size
+seen_length (Some e) size =
+    if nat_lt 0 (length e.bytes) && nat_le (e.from + length e.bytes) most_file then max size (e.from + length e.bytes) else size
+
+-- so many bytes of it from an offset on, of which the mount tells these
+abbrev pub seen_part : Option Extent → ℕ → ℕ → List ℕ → List ℕ
+seen_part None from count part = part
+seen_part (Some e) from count part =
+    if nat_lt e.from from then take count (written 0 (drop (from - e.from) e.bytes) part)
+    else take count (written (e.from - from) e.bytes part)
 
 -- ---- how much waits
 

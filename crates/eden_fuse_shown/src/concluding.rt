@@ -1,11 +1,11 @@
 // What is answered once it is known what a message came to.
-ghost use Rattle.std.specs.Prelude.{◌≡◌, ◌⊎◌, ℕ, List, true};
+ghost use Rattle.std.specs.Prelude.{◌≡◌, ◌⊎◌, ℕ, IfOk, List, true};
 ghost use Rattle.eden_fuse_format.specs.declared.answer.Answer.TheVariants as answer;
 ghost use Rattle.eden_fuse_format.specs.Answers.{IsBrief};
 ghost use Rattle.eden_fuse_format.specs.Asked.{seen};
 ghost use Rattle.eden_fuse_nodes.specs.Tables.{IsSame};
 ghost use Rattle.eden_fuse_session.specs.Turns.{IsBriefly, told};
-ghost use Rattle.eden_fuse_shown.specs.Attributes.{entry_of, open_file};
+ghost use Rattle.eden_fuse_shown.specs.Attributes.{open_file};
 ghost use Rattle.eden_fuse_shown.specs.Naming.{goal_of, named};
 ghost use Rattle.eden_fuse_shown.specs.Opens.{IsSame as AreSame};
 ghost use Rattle.eden_fuse_shown.specs.Showing.{
@@ -17,6 +17,7 @@ ghost use Rattle.eden_fuse_shown.specs.Showing.{
   Lists,
   Shuts,
   count,
+  entry_at,
   errno_of,
   failed,
   flags_of,
@@ -24,12 +25,15 @@ ghost use Rattle.eden_fuse_shown.specs.Showing.{
   refuse,
   rows_told,
   say,
+  seen_bytes,
   start,
   synced,
 };
+ghost use Rattle.eden_fuse_shown.specs.Waiting.{extent_of};
 
 use crate::attributes::{attributes_of, entry_of, open_directory, open_file, started};
 use crate::changing::{change, enter, enter_open};
+use crate::extents::Extents;
 use crate::listing::{entries_from, put_listing};
 use crate::manner::Manner;
 use crate::mount::Unheard;
@@ -41,7 +45,7 @@ use eden_fuse_meaning::Outcome;
 use eden_fuse_nodes::{Nodes, Place};
 use eden_fuse_session::Said;
 use eden_model::{Bytes, Entries, Kind, Name};
-use std::alloc::Global;
+use std::alloc::{AllocError, Global};
 
 const EIO: u32 = 5;
 
@@ -103,13 +107,14 @@ fn found(
     manner: Manner,
     nodes: &mut Nodes,
     times: &mut Times,
+    waits: &Extents,
     fresh: Option<Time>,
     place: Option<Place>,
     kind: Kind,
     size: u64,
     inode: u64,
 ) -> Answer<'static>
-    ensures enters { Enters place (λ id at. answer.Entry (entry_of manner id inode at kind size))
+    ensures enters { Enters place (λ id at. answer.Entry (entry_at manner waits.now kind size inode id at))
         nodes.old nodes.new (say result) }
     ensures brief { IsBrief result }
 {
@@ -119,6 +124,7 @@ fn found(
             if let Some(now) = fresh {
                 times.change(id, now);
             }
+            let size = waits.seen_length(id, size);
             Answer::Entry(entry_of(manner, id, inode, times.of(id, inode), kind, size))
         }
     }
@@ -142,6 +148,7 @@ fn made(
     nodes: &mut Nodes,
     opens: &mut Opens,
     times: &mut Times,
+    waits: &Extents,
     now: Time,
     operation: &Operation<'_>,
     place: Option<Place>,
@@ -149,8 +156,8 @@ fn made(
     size: u64,
     inode: u64,
 ) -> Answer<'static>
-    ensures enters { EntersOpen place
-        (λ id at. answer.Created (entry_of manner id inode at kind size) (open_file (flags_of (seen operation.now))))
+    ensures enters { EntersOpen place (λ id at. answer.Created (entry_at manner waits.now kind size inode id at)
+        (open_file (flags_of (seen operation.now))))
         nodes.old nodes.new opens.old opens.new (say result) }
     ensures brief { IsBrief result }
 {
@@ -160,6 +167,7 @@ fn made(
             if let Some(now) = fresh(operation, now) {
                 times.change(id, now);
             }
+            let size = waits.seen_length(id, size);
             Answer::Created(
                 entry_of(manner, id, inode, times.of(id, inode), kind, size),
                 open_file(flags_of(operation)),
@@ -223,15 +231,52 @@ pub(crate) fn count(written: u64) -> Answer<'static>
 }
 
 // Bytes are left in the room.
-fn give(bytes: Bytes, room: &mut Vec<u8>) -> Said
-    ensures told { told result room.new.items ≡ give bytes }
+fn give(bytes: Vec<u8>, room: &mut Vec<u8>) -> Said
+    ensures told { told result room.new.items ≡ give bytes.items }
     ensures brief { IsBriefly result room.new.items }
 {
     if bytes.len() >= 1 << 31 {
         return Said::Answers(Answer::Refused(EIO));
     }
-    *room = bytes.into_vec();
+    *room = bytes;
     Said::Data
+}
+
+// What is seen of the bytes that the mount told is left there.
+fn give_seen(
+    alloc: Global,
+    waits: &Extents,
+    node: u64,
+    operation: &Operation<'_>,
+    bytes: Bytes,
+    room: &mut Vec<u8>,
+) -> Said
+    ensures told { (told result room.new.items
+        ≡ give (seen_bytes (seen operation.now) (extent_of waits.now node) bytes))
+        ⊎ (told result room.new.items ≡ refuse 12) }
+    ensures brief { IsBriefly result room.new.items }
+{
+    match seen_bytes(alloc, waits, node, operation, bytes.into_vec()) {
+        Ok(bytes) => give(bytes, room),
+        Err(_) => refuse(ENOMEM),
+    }
+}
+
+fn seen_bytes(
+    alloc: Global,
+    waits: &Extents,
+    node: u64,
+    operation: &Operation<'_>,
+    bytes: Vec<u8>,
+) -> Result<Vec<u8>, AllocError>
+    ensures { IfOk result (λ v. v.items ≡ seen_bytes (seen operation.now) (extent_of waits.now node) bytes.items) }
+{
+    match operation {
+        Operation::Read(read) => {
+            waits.seen_part(alloc, node, read.offset, u64::from(read.size), bytes)
+        }
+        _ => Ok(bytes),
+    }
 }
 
 /// Tells entries of an open directory.
@@ -294,7 +339,8 @@ fn list(
     more: bool,
     room: &mut Vec<u8>,
 ) -> Said
-    ensures listed { IsListed node (seen operation.now) last rows more pages.old pages.new (told result room.new.items) }
+    ensures listed { IsListed node (seen operation.now) last rows more pages.old pages.new
+        (told result room.new.items) }
     ensures brief { IsBriefly result room.new.items }
 {
     match operation {
@@ -311,6 +357,7 @@ pub(crate) fn conclude(
     pages: &mut Pages,
     opens: &mut Opens,
     times: &mut Times,
+    waits: &Extents,
     now: Time,
     node: u64,
     operation: &Operation<'_>,
@@ -323,7 +370,7 @@ pub(crate) fn conclude(
     requires place { place ≡ named node (seen operation.now) }
     requires goal { goal ≡ goal_of (seen operation.now) }
     ensures concludes { Concludes manner node (seen operation.now) last nodes.old nodes.new pages.old pages.new
-        opens.old opens.new end (told result room.new.items) }
+        opens.old opens.new waits.now end (told result room.new.items) }
     ensures brief { IsBriefly result room.new.items }
 {
     match end {
@@ -338,18 +385,21 @@ pub(crate) fn conclude(
         Ok(Outcome::Absent) => Said::Answers(Answer::NoEntry(manner.keep)),
         Ok(Outcome::Found(kind, size, inode)) => {
             let fresh = fresh(operation, now);
-            Said::Answers(found(alloc, manner, nodes, times, fresh, place, kind, size, inode))
+            Said::Answers(found(
+                alloc, manner, nodes, times, waits, fresh, place, kind, size, inode,
+            ))
         }
         Ok(Outcome::Attributes(kind, size, inode)) => {
             let moments = times.of(node, inode);
+            let size = waits.seen_length(node, size);
             let attributes = attributes_of(manner, inode, moments, kind, size);
             Said::Answers(Answer::Attributes(attributes))
         }
         Ok(Outcome::Opened) => Said::Answers(open(alloc, pages, opens, node, operation)),
         Ok(Outcome::Made(kind, size, inode)) => Said::Answers(made(
-            alloc, manner, nodes, opens, times, now, operation, place, kind, size, inode,
+            alloc, manner, nodes, opens, times, waits, now, operation, place, kind, size, inode,
         )),
-        Ok(Outcome::Bytes(bytes)) => give(bytes, room),
+        Ok(Outcome::Bytes(bytes)) => give_seen(alloc, waits, node, operation, bytes, room),
         Ok(Outcome::Written(written)) => Said::Answers(count(written)),
         Ok(Outcome::Rows(rows, more)) => { list(pages, node, operation, last, rows, more, room) }
         Ok(Outcome::Space) => Said::Answers(Answer::StatFs(manner.space)),

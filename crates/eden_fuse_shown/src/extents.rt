@@ -12,6 +12,7 @@ ghost use Rattle.std.specs.Prelude.{
   false,
   true,
   length,
+  take,
   IfOk,
   IfSome,
   IsSome,
@@ -37,6 +38,8 @@ ghost use Rattle.eden_fuse_shown.specs.Waiting.{
   may_wait,
   most_bridged,
   most_waiting,
+  seen_length,
+  seen_part,
 };
 
 use eden_model::{SharedBytes, change_laws};
@@ -105,6 +108,36 @@ impl Extent {
         ensures { IfOk result (λ b. b ≡ self.now.bytes) }
     {
         self.bytes.share()
+    }
+
+    // How long its file is seen, of which the mount tells that it is so long.
+    fn seen_length(&self, size: u64) -> u64
+        ensures { result ≡ seen_length (Some self.now) size }
+    {
+        let len = self.len();
+        if len == 0 || self.from > MOST_FILE || len > MOST_FILE - self.from {
+            return size;
+        }
+        size.max(self.from + len)
+    }
+
+    // So many bytes of its file from an offset on, of which the mount tells these.
+    fn seen_part(
+        &self,
+        alloc: Global,
+        from: u64,
+        count: u64,
+        part: Vec<u8>,
+    ) -> Result<Vec<u8>, AllocError>
+        ensures { IfOk result (λ v. v.items ≡ seen_part (Some self.now) from count part.items) }
+    {
+        let bytes = self.bytes.as_slice();
+        if self.from < from {
+            let gone = from - self.from;
+            let rest = bytes.get(gone as usize..).unwrap_or(&[]);
+            return laid_over(alloc, 0, rest, count, part);
+        }
+        laid_over(alloc, self.from - from, bytes, count, part)
     }
 
     // How many bytes.
@@ -227,6 +260,37 @@ fn filled(mut between: Vec<u8>, len: usize, behind: &[u8]) -> Result<Vec<u8>, Al
     between.resize(len, 0)?;
     between.extend_from_slice(behind)?;
     Ok(between)
+}
+
+// The first so many bytes of a part with others written into it.
+fn laid_over(
+    alloc: Global,
+    at: u64,
+    bytes: &[u8],
+    count: u64,
+    part: Vec<u8>,
+) -> Result<Vec<u8>, AllocError>
+    ensures { IfOk result (λ v. v.items ≡ take count (written at bytes.now part.items)) }
+{
+    let mut part = part;
+    if bytes.is_empty() {
+        part.truncate(count as usize);
+        return Ok(part);
+    }
+    if at >= count {
+        part.resize(count as usize, 0)?;
+        return Ok(part);
+    }
+    let (at, room) = (at as usize, (count - at) as usize);
+    if bytes.len() >= room {
+        let (bytes, _) = bytes.split_at(room);
+        return filled(part, at, bytes);
+    }
+    let rest = Vec::from_slice(alloc, part.get(at + bytes.len()..).unwrap_or(&[]))?;
+    let mut seen = filled(part, at, bytes)?;
+    seen.extend_from_slice(&rest)?;
+    seen.truncate(count as usize);
+    Ok(seen)
 }
 
 // What waits of each node is changed at one node.
@@ -360,6 +424,33 @@ impl Extents {
     {
         let _ = &self.all;
         self.extents.get(&node)
+    }
+
+    /// How long a node's file is seen, of which a mount tells that it is so long.
+    pub fn seen_length(&self, node: u64, size: u64) -> u64
+        ensures { result ≡ seen_length (extent_of self.now node) size }
+    {
+        match self.get(node) {
+            None => size,
+            Some(extent) => extent.seen_length(size),
+        }
+    }
+
+    /// What is seen of so many bytes of a node's file from an offset on, of which a mount tells these.
+    pub fn seen_part(
+        &self,
+        alloc: Global,
+        node: u64,
+        from: u64,
+        count: u64,
+        part: Vec<u8>,
+    ) -> Result<Vec<u8>, AllocError>
+        ensures { IfOk result (λ v. v.items ≡ seen_part (extent_of self.now node) from count part.items) }
+    {
+        match self.get(node) {
+            None => Ok(part),
+            Some(extent) => extent.seen_part(alloc, from, count, part),
+        }
     }
 
     /// Whether bytes from an offset on may wait: they begin in the node's extent, or where it ends, or there is none;

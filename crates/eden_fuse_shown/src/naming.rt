@@ -3,7 +3,6 @@ ghost use Rattle.std.specs.Prelude.{◌≡◌, IfOk};
 ghost use Rattle.eden_fuse_format.specs.Asked.{seen};
 ghost use Rattle.eden_fuse_nodes.specs.Tables.{place_of};
 ghost use Rattle.eden_fuse_shown.specs.Naming.{
-  IsAt,
   IsHeld,
   goal_of,
   is_veiled,
@@ -91,16 +90,6 @@ pub(crate) fn veiled_name(
             }
             Ok(None)
         }
-    }
-}
-
-/// The node that stands at the place, if one does.
-pub(crate) fn standing(nodes: &Nodes, place: &Option<Place>) -> Option<u64>
-    ensures { IsAt nodes.now place.now result }
-{
-    match place {
-        None => None,
-        Some(place) => nodes.at(place),
     }
 }
 

@@ -41,7 +41,6 @@ ghost use Rattle.eden_fuse_shown.specs.Showing.{
   JoinsOver,
   LetsGo,
   LooksBetween,
-  LooksUp,
   Once,
   Reads,
   RemovesHeld,
@@ -71,7 +70,7 @@ use crate::listing::rows_in;
 use crate::looking::look_before;
 use crate::manner::Manner;
 use crate::mount::Mount;
-use crate::naming::{begin, goal_of, held, is_veiled, named, path_of, standing, veiled_name};
+use crate::naming::{begin, goal_of, held, is_veiled, named, path_of, veiled_name};
 use crate::opens::Opens;
 use crate::pages::Pages;
 use crate::reading::gather;
@@ -205,6 +204,7 @@ impl<M: Mount + Drop, K: Clock + Drop> Shown<M, K> {
             &mut self.pages,
             &mut self.opens,
             &mut self.times,
+            &self.waits,
             now,
             node,
             operation,
@@ -414,10 +414,9 @@ impl<M: Mount + Drop, K: Clock + Drop> Shown<M, K> {
         self.write_apart(node, offset, operation, place, goal, room)
     }
 
-    // Answers a message that looks at what waits for a node.
+    // Answers a message before which what waits for its node is stored.
     fn look(
         &mut self,
-        looked: u64,
         node: u64,
         operation: &Operation<'_>,
         place: Option<Place>,
@@ -426,34 +425,13 @@ impl<M: Mount + Drop, K: Clock + Drop> Shown<M, K> {
     ) -> Said
         requires place { place ≡ named node (seen operation.now) }
         requires goal { goal ≡ goal_of (seen operation.now) }
-        ensures looks { Once M.answers (Some looked) (Runs M.answers node (seen operation.now) None) self.old
+        ensures looks { Once M.answers (Some node) (Runs M.answers node (seen operation.now) None) self.old
             (told result room.new.items) self.new }
         ensures brief { IsBriefly result room.new.items }
     {
-        match self.settle(looked) {
+        match self.settle(node) {
             Some(errno) => refuse(errno),
             None => self.go(node, operation, place, goal, None, room),
-        }
-    }
-
-    // .. for the node of the name that it looks up.
-    fn look_up(
-        &mut self,
-        node: u64,
-        operation: &Operation<'_>,
-        place: Option<Place>,
-        goal: Option<Place>,
-        room: &mut Vec<u8>,
-    ) -> Said
-        requires place { place ≡ named node (seen operation.now) }
-        requires goal { goal ≡ goal_of (seen operation.now) }
-        ensures looks { LooksUp M.answers node (seen operation.now) self.old
-            (told result room.new.items) self.new }
-        ensures brief { IsBriefly result room.new.items }
-    {
-        match standing(&self.nodes, &place) {
-            None => self.go(node, operation, place, goal, None, room),
-            Some(looked) => self.look(looked, node, operation, place, goal, room),
         }
     }
 
@@ -748,9 +726,8 @@ impl<M: Mount + Drop, K: Clock + Drop> Shown<M, K> {
                 self.replace(node, operation, directory, place, goal, room)
             }
             Sort::Write(offset) => self.write(node, offset, operation, place, goal, room),
-            Sort::Look => self.look(node, node, operation, place, goal, room),
+            Sort::Look => self.look(node, operation, place, goal, room),
             Sort::Sync => self.sync(node, room),
-            Sort::LookUp => self.look_up(node, operation, place, goal, room),
             Sort::One(_) | Sort::Batch | Sort::On(_) | Sort::Close | Sort::Plain => {
                 self.go(node, operation, place, goal, None, room)
             }
@@ -783,7 +760,6 @@ impl<M: Mount + Drop, K: Clock + Drop> Service for Shown<M, K> {
             | Sort::Write(_)
             | Sort::Look
             | Sort::Sync
-            | Sort::LookUp
             | Sort::Plain => self.take(sort, node, &operation, room),
         }
     }

@@ -22,8 +22,6 @@ pub enum Sort {
     Look,
     /// .. and then the mount waits for the disk.
     Sync,
-    /// .. for the node of the name.
-    LookUp,
     /// What another run left is removed first.
     Start,
     /// If what is removed is open, it is hidden.
@@ -44,13 +42,8 @@ pub(crate) fn sort_of(operation: &Operation<'_>) -> Sort
         Operation::ReadDir(read) => Sort::On(*read),
         Operation::Release(_) => Sort::Close,
         Operation::Write(head, _) => Sort::Write(head.offset),
-        Operation::GetAttr(_)
-        | Operation::SetAttr(_)
-        | Operation::Read(_)
-        | Operation::Flush(_)
-        | Operation::Fallocate(_) => Sort::Look,
+        Operation::SetAttr(_) | Operation::Flush(_) | Operation::Fallocate(_) => Sort::Look,
         Operation::FSync(_) | Operation::FSyncDir(_) => Sort::Sync,
-        Operation::Lookup(_) | Operation::Create(_, _) => Sort::LookUp,
         Operation::Init(_) => Sort::Start,
         Operation::Unlink(_) => Sort::Remove,
         Operation::Rename(head, _, _) => Sort::Replace(head.newdir),
