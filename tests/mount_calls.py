@@ -85,6 +85,30 @@ def replaced_while_open(top: pathlib.Path) -> Steps:
         yield "size of the replaced", os.fstat(replaced).st_size
 
 
+def removed_before_open(top: pathlib.Path) -> Steps:
+    """A file that was looked up, and is opened once its name is gone or another's: so it is for one who opens it while
+    somebody else saves it by a rename."""
+    for name in "removed", "replaced", "moved":
+        path = top / name
+        path.write_bytes(b"old")
+        with opened(path, os.O_PATH) as found:
+            if name == "removed":
+                path.unlink()
+            elif name == "replaced":
+                (top / "new").write_bytes(b"new")
+                os.replace(top / "new", path)
+            else:
+                os.rename(path, top / "elsewhere")
+            yield f"{name} before it is opened: open", tried(read_at, f"/proc/self/fd/{found}")
+            yield f"{name} before it is opened: size", tried(lambda at: os.stat(at).st_size, found)
+    yield "what stands there now", [(path.name, path.read_bytes()) for path in sorted(top.iterdir())]
+
+
+def read_at(path: str) -> bytes:
+    with opened(path, os.O_RDONLY) as file:
+        return os.read(file, 9)
+
+
 def moved_folder(top: pathlib.Path) -> Steps:
     """A folder that is open, is stood in, and has an open file, is moved, and moved over another that is open."""
     folder, other = top / "folder", top / "other"
@@ -587,6 +611,25 @@ def listings(top: pathlib.Path) -> Steps:
     yield "then the folder", tried(folder.rmdir)
 
 
+def names_that_move_on(top: pathlib.Path) -> Steps:
+    """A long folder, each name of which moves on while it is read."""
+    count = 1_000
+    for number in range(count):
+        (top / f"{number:04}").touch()
+    told = 0
+    with os.scandir(top) as rows:
+        for row in rows:
+            told += 1
+            if told > 4 * count:
+                break
+            os.rename(row.path, top / f"n{row.name}")
+    yield "its end", told <= 4 * count
+    names = os.listdir(top)
+    yield "all are there", len(names) == count
+    for name in names:
+        (top / name).unlink()
+
+
 def kinds_in_rows(top: pathlib.Path) -> Steps:
     """The kind that a listing's row tells, with no look at the node."""
     (top / "file").touch()
@@ -694,7 +737,8 @@ def large(top: pathlib.Path) -> Steps:
 
 
 CALLS: list[Callable[[pathlib.Path], Steps]] = [
-    removed_while_open, replaced_while_open, moved_folder, removed_folder, removed_where_one_stands, exclusive,
-    appending, cut, positions, through_memory, programs, copies, pieces, kept_room, locks, times, stamps, permissions,
-    counted, listings, kinds_in_rows, odd_names, hidden_names, refused_kinds, long_links, deep, large,
+    removed_while_open, replaced_while_open, removed_before_open, moved_folder, removed_folder,
+    removed_where_one_stands, exclusive, appending, cut, positions, through_memory, programs, copies, pieces, kept_room,
+    locks, times, stamps, permissions, counted, listings, names_that_move_on, kinds_in_rows, odd_names, hidden_names,
+    refused_kinds, long_links, deep, large,
 ]

@@ -91,6 +91,8 @@ class Differences:
 
 
 REMOVED_FOLDER = "a directory that was removed, or moved over, while it is open or stood in"
+FOUND_FILE = "a file that is removed or replaced after somebody found its name, and before that one opens it"
+LISTED_FOLDER = "a directory of which each name is changed while it is listed"
 LINKS = "how many names a directory, or a removed file, has (`st_nlink`)"
 MODES = "modes"
 OWNERS = "owners"
@@ -106,6 +108,8 @@ LARGE = "large files"
 DIFFERENCES = [
     Difference(REMOVED_FOLDER, "removed folder: .*|moved folder: .* that it was moved over", ANYTHING, "ESTALE"),
     Difference(REMOVED_FOLDER, "removed where one stands: (stat|listing)( of what was above)?", ANYTHING, "ESTALE"),
+    Difference(FOUND_FILE, "removed before open: (removed|replaced) before it is opened: .*", ANYTHING, "ESTALE"),
+    Difference(LISTED_FOLDER, "names that move on: its end", True, False),
     Difference(LINKS, "(removed|replaced) while open: links( of the replaced)?", 0, 1),
     Difference(LINKS, "counted: links of (a folder of two folders|an empty folder)", ANYTHING, 1),
     Difference(MODES, "permissions: (chmod (600|444)|made with 600)", ANYTHING, "0o100644"),
