@@ -569,6 +569,7 @@ def counted(top: pathlib.Path) -> Steps:
     yield "links of a folder of two folders", (top / "folder").stat().st_nlink
     yield "links of an empty folder", (top / "folder/two").stat().st_nlink
     yield "size of a link", (top / "link").lstat().st_size
+    yield "a folder has a size", (top / "folder").stat().st_size > 0
     yield "blocks of a file are as many as its bytes need", (top / "file").stat().st_blocks * 512 >= 10_000
     yield "its number is its own", len({path.lstat().st_ino for path in top.iterdir()})
     yield "its device is its folder's", (top / "file").stat().st_dev == top.stat().st_dev

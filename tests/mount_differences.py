@@ -94,6 +94,7 @@ REMOVED_FOLDER = "a directory that was removed, or moved over, while it is open 
 FOUND_FILE = "a file that is removed or replaced after somebody found its name, and before that one opens it"
 LISTED_FOLDER = "a directory of which each name is changed while it is listed"
 LINKS = "how many names a directory, or a removed file, has (`st_nlink`)"
+FOLDER_SIZE = "the size of a directory (`st_size`, `st_blocks`)"
 MODES = "modes"
 OWNERS = "owners"
 MORE_NAMES = "hard links"
@@ -112,6 +113,7 @@ DIFFERENCES = [
     Difference(LISTED_FOLDER, "names that move on: its end", True, False),
     Difference(LINKS, "(removed|replaced) while open: links( of the replaced)?", 0, 1),
     Difference(LINKS, "counted: links of (a folder of two folders|an empty folder)", ANYTHING, 1),
+    Difference(FOLDER_SIZE, "counted: a folder has a size", True, False),
     Difference(MODES, "permissions: (chmod (600|444)|made with 600)", ANYTHING, "0o100644"),
     Difference(MODES, "permissions: (chmod (4755|1777)|made with 711)", ANYTHING, "0o100755"),
     Difference(MODES, "permissions: a folder.*", ANYTHING, "0o40755"),
