@@ -48,6 +48,11 @@ pub fn folder_of(rt: &HostRuntime, name: &str, table: &[(&str, Made)]) -> io::Re
     Ok(folder)
 }
 
+/// Removes the folder and all that is in it.
+pub fn remove(rt: &HostRuntime, folder: PathBuf) -> io::Result<()> {
+    fs::remove_dir_all(rt, folder.as_path())
+}
+
 /// Changes the last byte of that file.
 pub fn damage(rt: &HostRuntime, folder: &PathBuf, name: &str) -> io::Result<()> {
     let path = folder.join(rt.alloc(), name)?;

@@ -1,5 +1,5 @@
 //! Orphans of an overlay, and what interrupted stores left in a folder: what is found, counted and removed.
-use crate::folders::{Made, folder_of};
+use crate::folders::{Made, folder_of, remove};
 use crate::formats::{NEW_DIRECTORY, NEW_FILE, OWN_BODY, OWN_DIGEST, told};
 use eden_model::{Id, Outside};
 use eden_overlay::{
@@ -21,21 +21,35 @@ const HI: [u8; 20] = [
     0x0b, 0xde, 0x6a, 0x42,
 ];
 
+fn put<F: Files<Outside>>(
+    rt: &impl Abort,
+    alloc: Global,
+    files: &mut F,
+    number: u64,
+    bytes: &[u8],
+) {
+    files.replace(alloc, number, bytes).expect(rt, "memory");
+}
+
 // Files of which the root's directory names 2, which is a content or isn't there, and no directory names 7, 9 and 10.
 // Whether file 0 is a state nobody asks.
 fn files_with(rt: &impl Abort, alloc: Global, has_content: bool) -> MemoryFiles<Outside> {
     let root = told(rt, alloc, &NEW_DIRECTORY, &OWN_DIGEST, 0, OWN_BODY);
-    let content = told(rt, alloc, &NEW_FILE, &HI, 0, b"hi");
     let mut files = MemoryFiles::<Outside>::new(alloc);
-    files.replace(alloc, 0, b"state").expect(rt, "memory");
-    files.replace(alloc, 1, &root).expect(rt, "memory");
+    put(rt, alloc, &mut files, 0, b"state");
+    put(rt, alloc, &mut files, 1, &root);
     if has_content {
-        files.replace(alloc, 2, &content).expect(rt, "memory");
+        put_content(rt, alloc, &mut files);
     }
-    files.replace(alloc, 7, b"").expect(rt, "memory");
-    files.replace(alloc, 9, b"12345").expect(rt, "memory");
-    files.replace(alloc, 10, &root).expect(rt, "memory");
+    put(rt, alloc, &mut files, 7, b"");
+    put(rt, alloc, &mut files, 9, b"12345");
+    put(rt, alloc, &mut files, 10, &root);
     files
+}
+
+fn put_content<F: Files<Outside>>(rt: &impl Abort, alloc: Global, files: &mut F) {
+    let content = told(rt, alloc, &NEW_FILE, &HI, 0, b"hi");
+    put(rt, alloc, files, 2, &content);
 }
 
 // Whether these are the numbers of the stored files.
@@ -60,42 +74,58 @@ fn removed<F: Files<Outside>>(
     })
 }
 
+// What a removal answers.
+type Answer = Result<Removed, RescanFault>;
+
+// Whether removals give those answers, one after another.
+fn gives<F: Files<Outside>>(
+    overlay: &mut Overlay<Outside, F>,
+    alloc: Global,
+    answers: &[Answer],
+) -> bool {
+    for want in answers {
+        if removed(overlay, alloc) != *want {
+            return false;
+        }
+    }
+    true
+}
+
+// Whether removals over those files give those answers, and leave files of these numbers.
+fn leaves<F: Files<Outside>>(alloc: Global, files: F, answers: &[Answer], left: &[u64]) -> bool {
+    let mut overlay = Overlay::<Outside, _>::new(alloc, files);
+    gives(&mut overlay, alloc, answers) && lists(&mut overlay.into_files(), alloc, left)
+}
+
 #[test]
 fn orphans_are_removed_and_counted(rt: HostRuntime) {
     let files = files_with(&rt, rt.alloc(), true);
-    let mut overlay = Overlay::<Outside, _>::new(rt.alloc(), files);
-    assert!(rt;
-        removed(&mut overlay, rt.alloc())
-            == Ok(Removed {
-                files: 3,
-                bytes: 92
-            })
-    );
-    assert!(rt; removed(&mut overlay, rt.alloc()) == Ok(Removed { files: 0, bytes: 0 }));
-    assert!(rt; lists(&mut overlay.into_files(), rt.alloc(), &[0, 1, 2]));
+    let answers = &[
+        Ok(Removed {
+            files: 3,
+            bytes: 92,
+        }),
+        Ok(Removed { files: 0, bytes: 0 }),
+    ];
+    assert!(rt; leaves(rt.alloc(), files, answers, &[0, 1, 2]));
 }
 
 #[test]
 fn without_a_root_every_file_is_an_orphan(rt: HostRuntime) {
     let mut files = files_with(&rt, rt.alloc(), true);
     files.remove(1).expect(&rt, "removed");
-    let mut overlay = Overlay::<Outside, _>::new(rt.alloc(), files);
-    assert!(rt;
-        removed(&mut overlay, rt.alloc())
-            == Ok(Removed {
-                files: 4,
-                bytes: 158
-            })
-    );
-    assert!(rt; lists(&mut overlay.into_files(), rt.alloc(), &[0]));
+    let answers = &[Ok(Removed {
+        files: 4,
+        bytes: 158,
+    })];
+    assert!(rt; leaves(rt.alloc(), files, answers, &[0]));
 }
 
 #[test]
 fn a_name_that_dangles_is_told(rt: HostRuntime) {
     let files = files_with(&rt, rt.alloc(), false);
-    let mut overlay = Overlay::<Outside, _>::new(rt.alloc(), files);
-    assert!(rt; removed(&mut overlay, rt.alloc()) == Err(RescanFault::Dangling(2)));
-    assert!(rt; lists(&mut overlay.into_files(), rt.alloc(), &[0, 1, 7, 9, 10]));
+    let answers = &[Err(RescanFault::Dangling(2))];
+    assert!(rt; leaves(rt.alloc(), files, answers, &[0, 1, 7, 9, 10]));
 }
 
 // What is left where that call of the files fails, counted from 1: the root's head, two reads, the list, three heads,
@@ -116,13 +146,10 @@ const FAILING: &[(u64, &[u64])] = &[
 fn what_was_removed_stays_so(rt: HostRuntime) {
     for (call, left) in FAILING {
         let files = FailingFiles::new(files_with(&rt, rt.alloc(), true), *call);
-        let mut overlay = Overlay::<Outside, _>::new(rt.alloc(), files);
         assert!(rt;
-            removed(&mut overlay, rt.alloc()) == Err(RescanFault::Device),
+            leaves(rt.alloc(), files, &[Err(RescanFault::Device)], left),
             "at {call}"
         );
-        let mut files = overlay.into_files().into_files();
-        assert!(rt; lists(&mut files, rt.alloc(), left), "at {call}");
     }
 }
 
@@ -149,14 +176,27 @@ fn count_names(rt: &HostRuntime, folder: &PathBuf) -> Option<usize> {
     Some(count)
 }
 
+// Whether what was being stored is removed so, one time after another.
+fn all_go(rt: &HostRuntime, folder: PathBuf, removed: &[Removed]) -> bool {
+    let mut files = FolderFiles::new(rt, folder);
+    for want in removed {
+        if files.remove_unfinished(rt.alloc()) != Ok(*want) {
+            return false;
+        }
+    }
+    true
+}
+
 #[test]
 fn what_was_being_stored_is_removed(rt: HostRuntime) {
     let folder = folder_of(&rt, "overlay-unfinished", LEFT).expect(&rt, "a folder");
-    let mut files = FolderFiles::new(&rt, folder.clone().expect(&rt, "memory"));
-    assert!(rt; files.remove_unfinished(rt.alloc()) == Ok(Removed { files: 2, bytes: 3 }));
-    assert!(rt; files.remove_unfinished(rt.alloc()) == Ok(Removed { files: 0, bytes: 0 }));
+    let removed = &[
+        Removed { files: 2, bytes: 3 },
+        Removed { files: 0, bytes: 0 },
+    ];
+    assert!(rt; all_go(&rt, folder.clone().expect(&rt, "memory"), removed));
     assert!(rt; count_names(&rt, &folder) == Some(LEFT.len() - 2));
-    fs::remove_dir_all(&rt, folder.as_path()).expect(&rt, "a folder");
+    remove(&rt, folder).expect(&rt, "a folder");
 }
 
 // Whether the device is told to have failed, once and counted, where those calls of the system fail.
@@ -175,9 +215,10 @@ fn is_told(rt: &HostRuntime, folder: PathBuf, call: Call) -> bool {
 #[test]
 fn a_failing_removal_is_told_and_counted(rt: HostRuntime) {
     let folder = folder_of(&rt, "overlay-unremoved", LEFT).expect(&rt, "a folder");
-    for call in [Call::List, Call::Look, Call::Remove] {
-        assert!(rt; is_told(&rt, folder.clone().expect(&rt, "memory"), call));
+    for call in &[Call::List, Call::Look, Call::Remove] {
+        let asked = folder.clone().expect(&rt, "memory");
+        assert!(rt; is_told(&rt, asked, *call));
     }
     assert!(rt; count_names(&rt, &folder) == Some(LEFT.len()));
-    fs::remove_dir_all(&rt, folder.as_path()).expect(&rt, "a folder");
+    remove(&rt, folder).expect(&rt, "a folder");
 }
