@@ -1,9 +1,8 @@
 //! The answers of sources in memory and in folders.
-use crate::folders::{Made, folder_of};
+use crate::folders::{Made, folder_of, remove};
 use eden_model::{Cause, Id, Outside};
 use eden_source::{FolderSource, MemorySource, Source};
 use std::alloc::{AllocError, Global};
-use std::fs;
 use std::io::ErrorKind;
 use std::path::PathBuf;
 use std::process::Abort;
@@ -17,10 +16,9 @@ fn id_starting(first: u8) -> Id {
 }
 
 fn is_answer(answer: &Result<Vec<u8>, Cause>, want: Result<&[u8], Cause>) -> bool {
-    match (answer, want) {
-        (Ok(framed), Ok(want)) => framed.as_slice() == want,
-        (Err(cause), Err(want)) => *cause == want,
-        _ => false,
+    match answer {
+        Ok(framed) => want == Ok(framed.as_slice()),
+        Err(cause) => want == Err(*cause),
     }
 }
 
@@ -47,25 +45,29 @@ fn put(rt: &impl Abort, alloc: Global, source: &mut MemorySource<Outside>, id: I
 }
 
 // Ten thousand objects of the same bytes, and then others in the second one's place.
-fn many(rt: &impl Abort, alloc: Global, second: &[u8]) -> MemorySource<Outside> {
-    let mut source = MemorySource::new(alloc);
+fn put_many(rt: &impl Abort, alloc: Global, source: &mut MemorySource<Outside>, second: &[u8]) {
     for number in 0..10_000 {
-        put(rt, alloc, &mut source, numbered(number), VERSION_1.framed);
+        put(rt, alloc, source, numbered(number), VERSION_1.framed);
     }
-    put(rt, alloc, &mut source, numbered(1), second);
-    source
+    put(rt, alloc, source, numbered(1), second);
+}
+
+// Whether those objects are given, and no other.
+fn gives_many<S: Source<Outside>>(source: &mut S, alloc: Global, second: &[u8]) -> bool {
+    let version_1 = Ok(VERSION_1.framed);
+    gives(source, alloc, numbered(0), version_1)
+        && gives(source, alloc, numbered(9_999), version_1)
+        && gives(source, alloc, numbered(1), Ok(second))
+        && gives(source, alloc, numbered(10_000), Err(Cause::Missing))
 }
 
 #[test]
 fn memory_gives_what_was_put(rt: HostRuntime) {
     let alloc = rt.alloc();
     let long = [7; 1000].repeat(alloc, 100).expect(&rt, "memory");
-    let mut source = many(&rt, alloc, long.as_slice());
-    let version_1 = Ok(VERSION_1.framed);
-    assert!(rt; gives(&mut source, alloc, numbered(0), version_1));
-    assert!(rt; gives(&mut source, alloc, numbered(9_999), version_1));
-    assert!(rt; gives(&mut source, alloc, numbered(1), Ok(long.as_slice())));
-    assert!(rt; gives(&mut source, alloc, numbered(10_000), Err(Cause::Missing)));
+    let mut source = MemorySource::<Outside>::new(alloc);
+    put_many(&rt, alloc, &mut source, &long);
+    assert!(rt; gives_many(&mut source, alloc, &long));
 }
 
 #[test]
@@ -133,10 +135,10 @@ fn gives_all<S: Source<Outside>>(source: &mut S, alloc: Global) -> bool {
 
 #[test]
 fn folder_gives_its_files(rt: HostRuntime) {
-    let folder = folder_of(&rt, "source", OBJECTS).expect(&rt, "objects");
+    let folder = folder_of(&rt, "source", OBJECTS).expect(&rt, "a folder");
     let mut source = FolderSource::new(&rt, folder.clone().expect(&rt, "memory"));
     assert!(rt; gives_all(&mut source, rt.alloc()));
-    fs::remove_dir_all(&rt, folder.as_path()).expect(&rt, "a folder");
+    remove(&rt, folder).expect(&rt, "a folder");
     assert!(rt; gives(&mut source, rt.alloc(), VERSION_1.id, Err(Cause::Missing)));
 }
 
@@ -167,36 +169,42 @@ fn given<S: Source<Outside>>(source: &mut S, alloc: Global, first: u8) -> Option
     }
 }
 
-// Reads that fail tell which objects are read at all, so that none of 2^30 bytes has to be.
-#[test]
-fn folder_gives_long_files(rt: HostRuntime) {
-    let folder = folder_of(&rt, "source-long", LONG_OBJECTS).expect(&rt, "objects");
-    let mut source = FolderSource::new(&rt, folder.clone().expect(&rt, "memory"));
-    assert!(rt; given(&mut source, rt.alloc(), 0x83) == Some(8_388_608));
+// The same of the folder's source.
+fn length_in(rt: &HostRuntime, folder: &PathBuf, first: u8) -> Option<usize> {
+    let mut source = FolderSource::new(rt, folder.clone().ok()?);
+    given(&mut source, rt.alloc(), first)
+}
+
+// The folder's source, where that call of the system fails so.
+fn failing(
+    rt: &HostRuntime,
+    folder: &PathBuf,
+    call: Call,
+    kind: ErrorKind,
+) -> Result<FolderSource<FaultySystem<'static, HostRuntime>>, AllocError> {
     let system = FaultySystem {
-        files: &rt,
-        call: Call::Read,
-        kind: ErrorKind::ConnectionReset,
+        files: *rt,
+        call,
+        kind,
         instead: None,
     };
-    let mut failing = FolderSource::new(system, folder.clone().expect(&rt, "memory"));
-    assert!(rt;
-        gives(
-            &mut failing,
-            rt.alloc(),
-            id_starting(0x84),
-            Err(Cause::Device)
-        )
-    );
-    assert!(rt;
-        gives(
-            &mut failing,
-            rt.alloc(),
-            id_starting(0x85),
-            Err(Cause::TooLarge)
-        )
-    );
-    fs::remove_dir_all(&rt, folder.as_path()).expect(&rt, "a folder");
+    Ok(FolderSource::new(system, folder.clone()?))
+}
+
+// Why two objects aren't given: reads that fail tell which are read at all, so that none of 2^30 bytes has to be.
+fn refuses_long<S: Source<Outside>>(source: &mut S, alloc: Global) -> bool {
+    gives(source, alloc, id_starting(0x84), Err(Cause::Device))
+        && gives(source, alloc, id_starting(0x85), Err(Cause::TooLarge))
+}
+
+#[test]
+fn folder_gives_long_files(rt: HostRuntime) {
+    let folder = folder_of(&rt, "source-long", LONG_OBJECTS).expect(&rt, "a folder");
+    assert!(rt; length_in(&rt, &folder, 0x83) == Some(8_388_608));
+    let source = failing(&rt, &folder, Call::Read, ErrorKind::ConnectionReset);
+    let mut source = source.expect(&rt, "memory");
+    assert!(rt; refuses_long(&mut source, rt.alloc()));
+    remove(&rt, folder).expect(&rt, "a folder");
 }
 
 const KINDS: &[(ErrorKind, Cause, u64)] = &[
@@ -219,14 +227,8 @@ fn all_fail(
     want: Cause,
     failures: u64,
 ) -> Result<bool, AllocError> {
-    for call in [Call::Look, Call::Open, Call::Read] {
-        let system = FaultySystem {
-            files: rt,
-            call,
-            kind,
-            instead: None,
-        };
-        let mut source = FolderSource::new(system, folder.clone()?);
+    for call in &[Call::Look, Call::Open, Call::Read] {
+        let mut source = failing(rt, folder, *call, kind)?;
         if !fails(&mut source, rt.alloc(), want, failures) {
             return Ok(false);
         }
@@ -237,9 +239,9 @@ fn all_fail(
 // A device that fails is no missing object, and is counted; want of memory is neither.
 #[test]
 fn failures_are_counted(rt: HostRuntime) {
-    let folder = folder_of(&rt, "source-failures", OBJECTS).expect(&rt, "objects");
+    let folder = folder_of(&rt, "source-failures", OBJECTS).expect(&rt, "a folder");
     for (kind, want, failures) in KINDS {
         assert!(rt; all_fail(&rt, &folder, *kind, *want, *failures) == Ok(true));
     }
-    fs::remove_dir_all(&rt, folder.as_path()).expect(&rt, "a folder");
+    remove(&rt, folder).expect(&rt, "a folder");
 }
