@@ -15,7 +15,7 @@ from checks import check, watched
 from helpers.running import pipes
 from overlays import RESCAN, Commit, Place, as_described, check_closed, check_session, replied, wanted_reply
 from random_requests import LOOKS, WORDS, RandomRequests, line_of, whole
-from yakembi.overlay_files import JOURNAL, PART, PARTS, RECORD_BYTES, Shown, records
+from yakembi.overlay_files import JOURNAL, MOST_BEHIND, PART, PARTS, RECORD_BYTES, Shown, records
 from yakembi.tree_model import LONGEST_DATA, Nodes, Values, WholeTree, without_number
 
 NAMES = [b"a", b"b", b"c", b"dir", b"many", b"plain.txt", b"new\nline"]
@@ -33,6 +33,8 @@ WIDE: list[tuple[str, Values]] = [
     *(("rename", ((b"wide", name), (b"wide", b"!" + name))) for name in WIDE_NAMES[-6:])]
 # A journal with more bytes becomes numbered files at the next change.
 FULL = 16 << 20
+# What is behind the records at least, for those that make room on a full disk.
+RESERVE = 64 << 10
 # How large a file is that is written again and again, and how many writes then are enough to fill a journal.
 LARGE, ENOUGH = LONGEST_DATA + 40_000, 170
 
@@ -51,7 +53,14 @@ def journal_of(place: Place) -> pathlib.Path:
 
 
 def size_of(journal: pathlib.Path) -> int:
-    return journal.stat().st_size if journal.exists() else 0
+    """How many bytes its records have, by what they say of themselves. Behind them are zeros."""
+    at = 0
+    if journal.exists():
+        with open(journal, "rb") as file:
+            while (front := file.read(RECORD_BYTES))[20:24] in MOST_BEHIND:
+                at += RECORD_BYTES + int.from_bytes(front[40:], "big")
+                file.seek(at)
+    return at
 
 
 def left_by(generator: random.Random, place: Place, nodes: Nodes, first: Sequence[tuple[str, Values]] = ()) -> Left:
@@ -117,7 +126,8 @@ def check_cut_journals(folder: pathlib.Path, commit: Commit, objects: pathlib.Pa
     check(f"changes of a body among its records, {parts}", parts >= len(first) // 2, True)
     check(f"changes in two places, {moves}", moves >= sum(word == "rename" for word, _ in first), True)
     ends = [0, *ends_of(journal)]
-    check("all of the journal are records", ends[-1], len(journal))
+    reserve = journal[ends[-1]:]
+    check("behind the records is the reserve, zeros", (reserve.strip(b"\0"), len(reserve) >= RESERVE), (b"", True))
     check(f"enough records, of {len(ends)}", len(ends) > REQUESTS // 2, True)
     for _ in range(CUTS):
         number = generator.randrange(len(ends) - 1)

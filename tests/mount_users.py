@@ -248,7 +248,9 @@ def write_on(path: pathlib.Path, is_over: threading.Event) -> list[str]:
 
 DISK = 4 << 20
 PIECE = 300_000
-# More than the journal's last page has room for.
+# What the journal takes: 50 of the first or more fill the disk, and the second what is then left before its reserve.
+NOTED, SMALL = 50_000, 2_000
+# More small files than the journal, and what its reserve makes of it, has room for.
 MOST_CHANGES = 200
 LIMIT = 4 << 20
 
@@ -268,8 +270,9 @@ def check_full_overlay(folder: pathlib.Path, repository: pathlib.Path) -> None:
             check("full: it is", (told, 0 < len(stored) < DISK // PIECE), ("ENOSPC", True))
             check("full: what was closed", {path.read_bytes() == data for path in stored}, {True})
             with filled_up(disk / "the rest"):
-                told = {tried((mount.folder / f"made {number}").mkdir) for number in range(MOST_CHANGES)}
-                check("full: changes, once the journal finds no room either", told - {None}, {"ENOSPC"})
+                made = [mount.folder / f"made {number}" for number in range(MOST_CHANGES)]
+                told = {tried(path.write_bytes, data[:SMALL]) for path in made}
+                check("full: changes, once the journal finds no room either", told - {SMALL}, {"ENOSPC"})
                 check("full: a look at the commit", (mount.folder / "plain.txt").read_text(), "plain\n")
             # What couldn't be stored has no bytes, if there was room for its name.
             refused = mount.folder / f"large {len(stored)}"
@@ -284,6 +287,53 @@ def check_full_overlay(folder: pathlib.Path, repository: pathlib.Path) -> None:
             check("full: what is there", {path.read_bytes() == data for path in stored}, {True})
             check("full: what came after it", (mount.folder / "small").read_bytes(), b"small")
             check("full: the second end", (mount.end("SIGTERM"), mount.said()), (0, []))
+
+
+def check_full_journal(folder: pathlib.Path, repository: pathlib.Path) -> None:
+    """Where small changes have filled the overlay's disk each removal goes, though nobody makes room elsewhere; and
+    once most is removed there is room again."""
+    data = random.Random(2).randbytes(NOTED)
+    with small_disk(folder / "small", DISK) as disk:
+        if disk is None:
+            skip("a full journal", "no small disk may be mounted")
+            return
+        (disk / "of another program").write_bytes(bytes(DISK // 4))
+        with MountGit(repository, "HEAD", folder / "mounted", "--overlay", disk / "overlay") as mount:
+            below, more = mount.folder / "below", mount.folder / "more"
+            below.mkdir()
+            more.mkdir()
+            told, stored = filled(below, data)
+            check(f"full journal: it is, with {len(stored)} files", (told, len(stored) > 40), ("ENOSPC", True))
+            with filled_up(disk / "the rest"):
+                told, small = filled(more, data[:SMALL])
+                check(f"full journal: for {len(small)} small ones too", told, "ENOSPC")
+                check_removals(mount.folder, stored, small)
+                check("full journal: with room", tried((mount.folder / "small").write_bytes, data), len(data))
+            check("full journal: the end, with nothing said", (mount.end("SIGTERM"), mount.said()), (0, []))
+        with MountGit(repository, "HEAD", folder / "mounted", "--overlay", disk / "overlay") as mount:
+            gone = [path for path in (mount.folder / "moved", mount.folder / "plain.txt", below, more) if path.exists()]
+            check("full journal: mounted again", (gone, (mount.folder / "small").read_bytes() == data), ([], True))
+            check("full journal: the second end", (mount.end("SIGTERM"), mount.said()), (0, []))
+
+
+def check_removals(folder: pathlib.Path, stored: list[pathlib.Path], small: list[pathlib.Path]) -> None:
+    """What goes in a mount whose overlay's disk has no room at all: a rename, and each removal. What makes a name is
+    refused, once the journal has no more than its reserve."""
+    made = [folder / f"made {number}" for number in range(SMALL // 50)]
+    told = [tried(path.mkdir) for path in made]
+    check("full journal: new directories", (told[-1], set(told) <= {None, "ENOSPC"}), ("ENOSPC", True))
+    check("full journal: those that were made", {tried(path.rmdir) for path in made if path.exists()} <= {None}, True)
+    moved, data = folder / "moved", stored[0].read_bytes()
+    check("full journal: a rename", tried(stored[0].rename, moved), moved)
+    check("full journal: what was renamed", moved.read_bytes() == data, True)
+    check("full journal: what the commit has", tried((folder / "plain.txt").unlink), None)
+    gone = {tried(path.unlink) for path in (moved, *stored[1:], *small)}
+    for path in small[-1].parent.iterdir():
+        gone.add(tried(path.unlink))
+    for path in stored[-1].parent.iterdir():
+        gone.add(tried(path.unlink))
+    check("full journal: removals", gone, {None})
+    check("full journal: directories", {tried(paths[-1].parent.rmdir) for paths in (stored, small)}, {None})
 
 
 @contextlib.contextmanager
@@ -318,7 +368,7 @@ def check_longest_file(folder: pathlib.Path, repository: pathlib.Path) -> None:
 def filled(folder: pathlib.Path, data: bytes) -> tuple[object, list[pathlib.Path]]:
     """Writes files until one is refused: how that is, and those that were closed."""
     stored: list[pathlib.Path] = []
-    while len(stored) < DISK // PIECE + 1:
+    while len(stored) < DISK // len(data) + 1:
         path = folder / f"large {len(stored)}"
         told = tried(path.write_bytes, data)
         if told != len(data):

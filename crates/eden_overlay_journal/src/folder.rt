@@ -4,7 +4,7 @@ use crate::bodies::Bodies;
 use crate::change::{Change, PARTS_LEN};
 use crate::dates::{date, now};
 use crate::journal::Journal;
-use crate::log::Log;
+use crate::log::{Log, Room};
 use crate::new_file::{LONGEST_DIRECTORY, LONGEST_RECORD};
 use crate::part::PART_LEN;
 use crate::record::{FRONT_LEN, Fields, Note, fields_in, is_whole, short_record, write_record};
@@ -15,6 +15,7 @@ use eden_plain_files::{FolderFault, sync_names};
 use itoa::Buffer;
 use std::alloc::{AllocError, Global};
 use std::collections::BTreeMap;
+use std::fs;
 use std::path::PathBuf;
 use std::rt::{Clock, Files};
 
@@ -26,6 +27,12 @@ const MOST_RECORDS: u16 = 256;
 
 /// A body that is shorter is noted whole, in bytes.
 const LEAST_CHANGED: usize = 1 << 10;
+
+/// The length of the body of a directory without entries.
+const EMPTY_LEN: usize = 4;
+
+/// So much room a numbered file takes on the disk at most beside its bytes, be it with a directory's header.
+const BESIDE_BYTES: u64 = 8 << 10;
 
 /// What the record of a file tells.
 #[derive(Clone, Copy)]
@@ -324,8 +331,54 @@ impl<R: Files + Clock + Drop> FolderJournal<R> {
         }
     }
 
+    // Where the record of that body finds its room. On a full disk a new directory's is refused, before the one that is
+    // to name it is told; any other may be told for a removal.
+    fn room_for(&self, number: u64, body: &[u8]) -> Room {
+        if body.len() <= EMPTY_LEN && !self.pieces.contains_key(&number) && !self.has_file(number) {
+            Room::Disk
+        } else {
+            Room::Reserve
+        }
+    }
+
+    // Whether there is a numbered file; no where that can't be known.
+    fn has_file(&self, number: u64) -> bool {
+        let mut name = Buffer::new();
+        match self.folder.join(self.alloc, name.format(number)) {
+            Ok(path) => fs::symlink_metadata(self.log.files(), path.as_path()).is_ok(),
+            Err(_) => false,
+        }
+    }
+
+    // How much room the files that it says are there take at most, as numbered files.
+    fn poured_len(&self) -> u64 {
+        let mut all: u64 = 0;
+        for (_, piece) in self.pieces.iter() {
+            if let Some(Piece { len, told, .. }) = piece {
+                let len = match told {
+                    Told::File => *len,
+                    Told::Body { len, .. } => *len,
+                };
+                all = all.saturating_add(len as u64).saturating_add(BESIDE_BYTES);
+            }
+        }
+        all
+    }
+
+    // Whether all that it says finds room in the reserve.
+    fn fits_in_reserve(&self) -> bool {
+        let reserve = self.log.reserve();
+        reserve > 0 && self.poured_len() <= reserve
+    }
+
     // Notes the record in the room, which tells that of the file.
-    fn put_record(&mut self, number: u64, when: u64, told: Told) -> Result<(), FilesFault> {
+    fn put_record(
+        &mut self,
+        number: u64,
+        when: u64,
+        told: Told,
+        room: Room,
+    ) -> Result<(), FilesFault> {
         let piece = Piece {
             at: self.log.end(),
             len: self.room.len().saturating_sub(FRONT_LEN),
@@ -334,7 +387,7 @@ impl<R: Files + Clock + Drop> FolderJournal<R> {
         };
         // The room in memory comes first: a record that is written can't be taken back.
         let before = self.pieces.insert(number, Some(piece))?;
-        match self.log.append(&self.room) {
+        match self.log.append(&self.room, room) {
             Ok(()) => Ok(()),
             Err(fault) => {
                 self.put_back(number, before);
@@ -389,8 +442,9 @@ impl<R: Files + Clock + Drop> Journal<Outside> for FolderJournal<R> {
     // What a file has is not known, and this World promises nothing of it.
     ghost changes = { λ _ _. None };
 
+    /// On a full disk as soon as what it says finds room in the rest of the reserve: that makes all its own free.
     fn is_full(&self) -> bool {
-        self.log.end() > self.full_at
+        self.log.end() > self.full_at || self.log.is_short() && self.fits_in_reserve()
     }
 
     fn obstacle(&self) -> Option<Obstacle> {
@@ -425,7 +479,7 @@ impl<R: Files + Clock + Drop> Journal<Outside> for FolderJournal<R> {
     fn store(&mut self, alloc: Global, number: u64, bytes: &[u8]) -> Result<(), FilesFault> {
         let when = now(self.log.files());
         write_record(&mut self.room, Note::Stored, number, when, &[], bytes)?;
-        self.put_record(number, when, Told::File)?;
+        self.put_record(number, when, Told::File, Room::Disk)?;
         self.bodies.forget(number);
         Ok(())
     }
@@ -439,7 +493,8 @@ impl<R: Files + Clock + Drop> Journal<Outside> for FolderJournal<R> {
     ) -> Result<(), FilesFault> {
         let when = now(self.log.files());
         let told = self.write_body(number, when, body)?;
-        self.put_record(number, when, told)?;
+        let room = self.room_for(number, body);
+        self.put_record(number, when, told, room)?;
         if body.len() >= LEAST_CHANGED {
             self.bodies.keep(alloc, number, body);
         } else {
@@ -451,24 +506,24 @@ impl<R: Files + Clock + Drop> Journal<Outside> for FolderJournal<R> {
     fn remove(&mut self, number: u64) -> Result<bool, FilesFault> {
         self.bodies.forget(number);
         match self.pieces.insert(number, None) {
-            Ok(before) => match self.log.append(&short_record(Note::Removed, number)) {
-                Ok(()) => Ok(true),
-                Err(_) => {
-                    self.put_back(number, before);
-                    Err(FilesFault::Device)
+            Ok(before) => {
+                let record = short_record(Note::Removed, number);
+                match self.log.append(&record, Room::Reserve) {
+                    Ok(()) => Ok(true),
+                    Err(_) => {
+                        self.put_back(number, before);
+                        Err(FilesFault::Device)
+                    }
                 }
-            },
+            }
             Err(_) => Ok(false),
         }
     }
 
     fn pass(&mut self, number: u64) -> Result<(), FilesFault> {
         if self.pieces.contains_key(&number) {
-            if self
-                .log
-                .append(&short_record(Note::Elsewhere, number))
-                .is_err()
-            {
+            let record = short_record(Note::Elsewhere, number);
+            if self.log.append(&record, Room::Reserve).is_err() {
                 return Err(FilesFault::Device);
             }
             self.pieces.remove(&number);
@@ -501,7 +556,12 @@ impl<R: Files + Clock + Drop> Journal<Outside> for FolderJournal<R> {
         }
     }
 
+    /// Whoever asks is about to store these files. The reserve is given to the disk where they find room in it: with
+    /// that they are stored on a full disk too.
     fn numbers(&mut self, alloc: Global) -> Result<Vec<u64>, FilesFault> {
+        if self.fits_in_reserve() {
+            self.log.give_reserve();
+        }
         let mut numbers = Vec::with_capacity(alloc, self.pieces.len())?;
         // What was removed comes first, since that makes room on the disk.
         for is_there in [false, true] {

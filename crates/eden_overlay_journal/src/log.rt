@@ -19,6 +19,21 @@ enum Synced {
     Lost,
 }
 
+/// So many bytes stay allocated behind the records, for those that make room on a full disk.
+const RESERVE: u64 = 64 << 10;
+
+/// So many zeros are written at a time: what a disk gives at once.
+const ZEROS_LEN: usize = 4 << 10;
+
+/// Where a record finds its room.
+#[derive(Clone, Copy, PartialEq, Eq)]
+pub(crate) enum Room {
+    /// On the disk: the reserve is still there behind it.
+    Disk,
+    /// In the reserve, where the disk has none.
+    Reserve,
+}
+
 /// The file, where there is one.
 #[derive(Drop)]
 pub(crate) struct Log<R: Files> {
@@ -27,6 +42,8 @@ pub(crate) struct Log<R: Files> {
     file: Option<R::File>,
     /// How many bytes the whole records have.
     end: u64,
+    /// Up to where the file was written: behind the records stand zeros, unless a write failed half way.
+    allocated: u64,
     /// Whether something may lie behind them.
     is_torn: bool,
     /// What the disk is known to have.
@@ -44,6 +61,7 @@ impl<R: Files + Drop> Log<R> {
             path,
             file,
             end: 0,
+            allocated: 0,
             is_torn: true,
             synced: Synced::Nothing,
             obstacle: None,
@@ -77,9 +95,9 @@ impl<R: Files + Drop> Log<R> {
         self.end = self.end.saturating_add(len);
     }
 
-    /// Writes the record behind the others. What a failure left there is cut off first.
-    pub(crate) fn append(&mut self, record: &[u8]) -> Result<(), FolderFault> {
-        match self.write_behind(record) {
+    /// Writes the record behind the others, over the zeros there. What a failure left is cut off first.
+    pub(crate) fn append(&mut self, record: &[u8], room: Room) -> Result<(), FolderFault> {
+        match self.write_behind(record, room) {
             Ok(()) => {
                 self.obstacle = None;
                 Ok(())
@@ -92,17 +110,12 @@ impl<R: Files + Drop> Log<R> {
         }
     }
 
-    fn write_behind(&mut self, record: &[u8]) -> io::Result<()> {
-        if self.file.is_none() {
-            self.file = Some(made(&self.files, &self.path)?);
-            self.synced = Synced::Nothing;
-        }
+    fn write_behind(&mut self, record: &[u8], room: Room) -> io::Result<()> {
+        self.begin()?;
+        self.make_room(record.len() as u64, room)?;
         let Some(file) = &mut self.file else {
             return Err(io::Error::from(ErrorKind::NotFound));
         };
-        if self.is_torn {
-            file.set_len(self.end)?;
-        }
         self.is_torn = true;
         if self.synced == Synced::All {
             self.synced = Synced::Name;
@@ -111,6 +124,83 @@ impl<R: Files + Drop> Log<R> {
         self.is_torn = false;
         self.end = self.end.saturating_add(record.len() as u64);
         Ok(())
+    }
+
+    // Makes the file where there is none, and cuts off what isn't known to be zeros.
+    fn begin(&mut self) -> io::Result<()> {
+        if self.file.is_none() {
+            self.file = Some(made(&self.files, &self.path)?);
+            self.synced = Synced::Nothing;
+        }
+        if self.is_torn {
+            if let Some(file) = &self.file {
+                file.set_len(self.end)?;
+            }
+            self.allocated = self.end;
+            self.is_torn = false;
+        }
+        Ok(())
+    }
+
+    // Has that many bytes allocated behind the records, and the reserve behind them: more of it than is owed, so that
+    // this is seldom done. On a disk without that room, as much as is owed.
+    fn make_room(&mut self, len: u64, room: Room) -> io::Result<()> {
+        let behind = self.end.saturating_add(len);
+        if behind.saturating_add(RESERVE) <= self.allocated
+            || self.allocate(behind.saturating_add(2 * RESERVE)).is_ok()
+        {
+            return Ok(());
+        }
+        match room {
+            Room::Disk => self.allocate(behind.saturating_add(RESERVE)),
+            Room::Reserve => self.allocate(behind),
+        }
+    }
+
+    // Writes zeros up to there or a little farther. After an error the file is no longer than it was.
+    fn allocate(&mut self, to: u64) -> io::Result<()> {
+        if to <= self.allocated {
+            return Ok(());
+        }
+        let count = (to - self.allocated).div_ceil(ZEROS_LEN as u64);
+        let Some(file) = &mut self.file else {
+            return Err(io::Error::from(ErrorKind::NotFound));
+        };
+        match write_zeros(file, self.allocated, count) {
+            Ok(()) => {
+                let len = count.saturating_mul(ZEROS_LEN as u64);
+                self.allocated = self.allocated.saturating_add(len);
+                Ok(())
+            }
+            Err(error) => {
+                // Zeros that stay there end the records too, and are more room than was asked for.
+                let _ = file.set_len(self.allocated);
+                Err(error)
+            }
+        }
+    }
+
+    /// How much of the file is allocated behind the records.
+    pub(crate) fn reserve(&self) -> u64 {
+        if self.is_torn {
+            0
+        } else {
+            self.allocated.saturating_sub(self.end)
+        }
+    }
+
+    /// Whether some of the reserve is used up, which the disk had no room to keep.
+    pub(crate) fn is_short(&self) -> bool {
+        self.file.is_some() && self.reserve() < RESERVE
+    }
+
+    /// Gives the reserve to the disk. Where that fails it stays.
+    pub(crate) fn give_reserve(&mut self) {
+        if let Some(file) = &self.file {
+            if file.set_len(self.end).is_ok() {
+                self.allocated = self.end;
+            }
+        }
     }
 
     /// Fills `bytes` with those that lie there.
@@ -147,6 +237,7 @@ impl<R: Files + Drop> Log<R> {
             remove_file(&self.files, self.path.as_str())?;
             self.file = None;
             self.end = 0;
+            self.allocated = 0;
         }
         Ok(())
     }
@@ -161,6 +252,16 @@ fn read_at<F: Read + Seek>(file: &mut F, at: u64, bytes: &mut [u8]) -> Result<()
 fn write_at<F: Write + Seek>(file: &mut F, at: u64, bytes: &[u8]) -> io::Result<()> {
     file.seek(SeekFrom::Start(at))?;
     file.write_all(bytes)?;
+    Ok(())
+}
+
+// Writes zeros there, so many times `ZEROS_LEN` of them.
+fn write_zeros<F: Write + Seek>(file: &mut F, at: u64, count: u64) -> io::Result<()> {
+    let zeros = [0; ZEROS_LEN];
+    file.seek(SeekFrom::Start(at))?;
+    for _ in 0..count {
+        file.write_all(&zeros)?;
+    }
     Ok(())
 }
 
