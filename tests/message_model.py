@@ -3,11 +3,13 @@
 The structs are those of Linux's include/uapi/linux/fuse.h (protocol 7.31). `FolderModel.answer` gives the bytes that
 answer a message, and follows what it makes of the tree, of the nodes that the kernel was told of, and of what is open.
 What `mountd` may choose (a node's number, an inode number, a handle, times) is taken from the answer that was told, if
-it may be told. What was written and isn't stored yet is kept beside the tree, which is the mount's.
+it may be told. What was written and isn't stored yet is kept beside the tree, which is the mount's, and is seen with
+it.
 """
 
 import contextlib
 import errno
+import itertools
 import os
 import struct
 from typing import Any, NamedTuple
@@ -142,11 +144,21 @@ def answered(unique: int, error: str | None, body: bytes = b"") -> bytes:
 
 
 class Page(NamedTuple):
-    """What an open directory listed last: after so many others, the dots too, after which name, and which names."""
+    """What an open directory listed last: after so many others, the dots too, after which name, which names, each with
+    the word of its kind, and whether others come after them."""
 
     offset: int
     after: bytes | None
-    names: list[bytes]
+    names: dict[bytes, bytes]
+    has_more: bool
+
+    def kept(self, offset: int) -> dict[bytes, bytes] | None:
+        """Those from an offset on, of which nothing is asked; at its end none, if it had no more. None where it has to
+        be listed on, and at its beginning always."""
+        gone = offset - self.offset
+        if offset <= len(DOTS) or not 0 <= gone <= len(self.names) or (gone == len(self.names) and self.has_more):
+            return None
+        return dict(itertools.islice(self.names.items(), gone, None))
 
 
 class Extent(NamedTuple):
@@ -162,6 +174,17 @@ class Extent(NamedTuple):
         """With bytes that begin in it or where it ends."""
         at = offset - self.start
         return Extent(self.start, self.data[:at] + data + self.data[at + len(data):])
+
+    def seen_length(self, size: int) -> int:
+        """How long its file is seen, which has so many bytes without it."""
+        return max(size, self.end()) if self.data and self.end() <= LONGEST_FILE else size
+
+    def seen_part(self, offset: int, size: int, part: bytes) -> bytes:
+        """What is seen of so many bytes of its file, which are these without it, with zeros in a gap."""
+        at, data = max(0, self.start - offset), self.data[max(0, offset - self.start):]
+        if not data:
+            return part[:size]
+        return (part[:at].ljust(min(at, size), b"\0") + data + part[at + len(data):])[:size]
 
 
 class FolderModel:
@@ -256,10 +279,9 @@ class FolderModel:
         self.waits.pop(node, None)
         return error
 
-    def settle_at(self, place: Place) -> None:
-        """.. for the node that stands there."""
-        if place in self.nodes:
-            self.settle(self.nodes[place])
+    def seen(self, node: int) -> Extent:
+        """What waits for a node, which whoever looks sees; it isn't stored for that."""
+        return self.waits.get(node, Extent(0, b""))
 
     # ---- where nodes lie
 
@@ -312,23 +334,27 @@ class FolderModel:
     def number_told(self, at: int) -> int:
         return int.from_bytes(self.told[at : at + 8], "little")
 
-    def attributes(self, path: Path, at: int) -> bytes:
-        """A node's, where those were told from that byte on."""
+    def attributes(self, path: Path, at: int, node: int | None) -> bytes:
+        """A node's, where those were told from that byte on; of one that is told of first, if no number is named."""
         _, kind, length, inode = self.tree.stat(path, self.number_told(at)).split()
-        size = int(length)
+        size = self.seen(self.fresh() if node is None else node).seen_length(int(length))
         told = self.told[at : at + ATTRIBUTES.size].ljust(ATTRIBUTES.size, b"\0")
         times = ATTRIBUTES.unpack(told)[3:9]
         may_be = times[:2] == (times[0], times[0]) and times[3] == times[4] and max(times[3:]) < 10**9
         return ATTRIBUTES.pack(int(inode), size, -(-size // 512), *(times if may_be else [0] * 6), MODES[kind], 1,
                                *self.owner, 0, 65_536, 0)
 
+    def fresh(self) -> int:
+        """The number of a node that is told of first."""
+        told = self.number_told(0)
+        return told if told > ROOT and told not in self.given else max(self.given) + 1
+
     def entry(self, place: Place) -> bytes:
         """What is told of what stands there, which is told of once more."""
-        attributes = self.attributes(self.child(*place), ENTRY.size)
         node = self.nodes.get(place)
+        attributes = self.attributes(self.child(*place), ENTRY.size, node)
         if node is None:
-            told = self.number_told(0)
-            node = told if told > ROOT and told not in self.given else max(self.given) + 1
+            node = self.fresh()
             self.given.add(node)
             self.places[node], self.nodes[place], self.counts[node] = place, node, 0
         self.counts[node] += 1
@@ -337,7 +363,6 @@ class FolderModel:
     # ---- messages about nodes
 
     def lookup(self, node: int, name: bytes) -> bytes:
-        self.settle_at((node, name))
         path = self.child(node, name)
         try:
             self.tree.present(path)
@@ -365,8 +390,7 @@ class FolderModel:
         """Nothing waits."""
 
     def getattr(self, node: int, *_: int) -> bytes:
-        self.settle(node)
-        return VALID.pack(KEEP, 0, 0) + self.attributes(self.path(node), VALID.size)
+        return VALID.pack(KEEP, 0, 0) + self.attributes(self.path(node), VALID.size, node)
 
     def setattr(self, node: int, valid: int, _: int, handle: int, size: int, *more: int) -> bytes:
         mode, user, group = more[7], more[9], more[10]
@@ -400,8 +424,7 @@ class FolderModel:
         return OPENED.pack(0, 34 if flags & os.O_ACCMODE == os.O_RDONLY else 2, 0)
 
     def read(self, node: int, handle: int, offset: int, size: int, *_: int) -> bytes:
-        self.settle(node)
-        return data_in(self.tree.read(self.path(node), offset, size))
+        return self.seen(node).seen_part(offset, size, data_in(self.tree.read(self.path(node), offset, size)))
 
     def write(self, node: int, handle: int, offset: int, size: int, *more: Any) -> bytes:
         """It waits if it may, at the latest once what waited is stored. Nobody looks for the node until then."""
@@ -453,7 +476,7 @@ class FolderModel:
         need(self.tree.present(self.path(node))[0] == "dir", "ENOTDIR")
         told = self.number_told(0)
         handle = told if told not in self.pages else max(self.pages) + 1
-        self.pages[handle] = Page(0, None, [])
+        self.pages[handle] = Page(0, None, {}, True)
         return OPENED.pack(handle, 10, 0)
 
     def after(self, handle: int, offset: int) -> bytes | None:
@@ -465,22 +488,27 @@ class FolderModel:
         if offset == page.offset:
             return page.after
         need(0 < offset - page.offset <= len(page.names), "EINVAL")
-        return page.names[offset - page.offset - 1]
+        return list(page.names)[offset - page.offset - 1]
 
     def readdir(self, node: int, handle: int, offset: int, size: int, *_: int) -> bytes:
-        after = self.after(handle, offset)
-        try:
-            path = self.path(node)
-        except Refused as refusal:
-            need(refusal.args[0] == "ESTALE", refusal.args[0])
-            return b""
-        need(self.tree.present(path)[0] == "dir", "ENOTDIR")
-        names = [name for name in self.tree.children(path) if after is None or name > after][:MOST_ENTRIES]
-        if handle in self.pages:
-            self.pages[handle] = Page(max(offset, len(DOTS)), after, names)
+        """What the last listing has, or a new one, which becomes the last, of up to so many names."""
+        page = self.pages.get(handle)
+        names = page.kept(offset) if page else None
+        if names is None:
+            after = self.after(handle, offset)
+            try:
+                path = self.path(node)
+            except Refused as refusal:
+                need(refusal.args[0] == "ESTALE", refusal.args[0])
+                return b""
+            need(self.tree.present(path)[0] == "dir", "ENOTDIR")
+            behind = [name for name in self.tree.children(path) if after is None or name > after]
+            names = {name: self.tree.kind_word(self.tree.nodes[path + (name,)]) for name in behind[:MOST_ENTRIES]}
+            if page:
+                self.pages[handle] = Page(max(offset, len(DOTS)), after, names, len(behind) > MOST_ENTRIES)
         body = b""
-        for number, name in enumerate(DOTS[offset:] + names, offset + 1):
-            kind = b"dir" if name in DOTS else self.tree.kind_word(self.tree.nodes[path + (name,)])
+        for number, (name, kind) in enumerate([*dict.fromkeys(DOTS[offset:], b"dir").items(), *names.items()],
+                                              offset + 1):
             row = row_of(number, name, kind)
             if not is_veiled((node, name)):
                 if len(body) + len(row) > size:
@@ -516,7 +544,6 @@ class FolderModel:
         return self.made((node, name))
 
     def create(self, node: int, flags: int, mode: int, mask: int, _: int, name: bytes) -> bytes:
-        self.settle_at((node, name))
         path = self.child(node, name)
         try:
             self.tree.create(path)

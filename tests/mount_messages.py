@@ -440,7 +440,12 @@ class RandomMessages:
         return node, (directory, self.random.choice([0, 0, 1, 1, 2, 4, 3]), 0, *names)
 
     def read(self, _: str) -> Asked:
-        return self.file(), (0, self.offset(), self.size(), 0, 0, 0, 0)
+        """Of those of a file for which something waits half begin in it, or shortly before or behind it."""
+        node = self.waiting() if self.random.random() < 0.3 else self.file()
+        offset, held = self.offset(), self.model.waits.get(node)
+        if held and self.random.random() < 0.5:
+            offset = max(0, self.random.randint(held.start - 50, held.end() + 50))
+        return node, (0, offset, self.size(), 0, 0, 0, 0)
 
     def write(self, _: str) -> Asked:
         """Of those to a file for which something waits half begin in it or go on behind it."""
@@ -568,7 +573,7 @@ class Judged:
     def look(self) -> None:
         """Asks for all that there is, so that it is compared: each directory's rows, each content, and what is open."""
         for node in list(self.model.opens):
-            self.ask(spelled("read", 5, node, 0, 0, LONGEST_DATA, 0, 0, 0, 0))
+            self.ask(reading(node, 0, LONGEST_DATA))
         self.look_into(ROOT)
 
     def look_into(self, node: int) -> None:
@@ -591,7 +596,7 @@ class Judged:
             self.ask(spelled("readlink", 5, node))
         else:
             for start in range(0, LONGEST_CONTENT + 1, LONGEST_DATA):
-                if len(self.ask(spelled("read", 5, node, 0, start, LONGEST_DATA, 0, 0, 0, 0))) == ANSWER.size:
+                if len(self.ask(reading(node, start, LONGEST_DATA))) == ANSWER.size:
                     break
         self.ask(spelled("forget", 5, node, 1))
 
@@ -711,9 +716,9 @@ class Recorded(WholeTree):
 
 def check_kills(folder: pathlib.Path, seed: int, count: int) -> None:
     """It is killed while it answers one of random messages. What was answered is there, but of what was written only
-    what was flushed, synchronised, looked at or closed since, each where that was answered; of a message that wasn't
-    answered none of its changes is, or the first ones are. In every second life much waits, and mostly a message that
-    has it stored is killed."""
+    what was flushed, synchronised or closed since, each where that was answered; of a message that wasn't answered
+    none of its changes is, or the first ones are. In every second life much waits, and mostly a message that has it
+    stored is killed."""
     place, commit, model = make_place(folder)
     model.tree = tree = Recorded(model.tree.nodes)
     generator = random.Random(seed)
@@ -769,7 +774,10 @@ def check_faults(folder: pathlib.Path) -> None:
         check_refused(kernel, changes)
         judged.look()
         judged.ask(writing(file, b"new"))
-        check_refused(kernel, [flushing(file), syncing(file), spelled("getattr", 5, file, 0, 0, 0), flushing(file)])
+        check_refused(kernel, [flushing(file), syncing(file), flushing(file)])
+        for message in (spelled("getattr", 5, file, 0, 0, 0), spelled("lookup", 5, ROOT, b"file"), reading(file, 0, 9)):
+            check("faults: what waits is seen", len(judged.ask(message)) > ANSWER.size, True)
+        check_refused(kernel, [flushing(file)])
         aside.rename(place.overlay)
         check("faults: what waits is stored once that goes well", judged.ask(flushing(file)), answered(5, None))
         for message in (writing(file, b"newer"), spelled("mkdir", 5, ROOT, 0, 0, b"made")):
@@ -787,6 +795,10 @@ def check_refused(kernel: Kernel, messages: Sequence[bytes]) -> None:
 
 def writing(node: int, data: bytes) -> bytes:
     return spelled("write", 5, node, 0, 0, len(data), 0, 0, 0, 0, data)
+
+
+def reading(node: int, offset: int, size: int) -> bytes:
+    return spelled("read", 5, node, 0, offset, size, 0, 0, 0, 0)
 
 
 def flushing(node: int) -> bytes:
