@@ -23,6 +23,8 @@ pub(crate) enum Call {
     WritesNot(usize, u64, &'static [u8]),
     /// These bytes are read.
     Reads(usize, &'static [u8]),
+    /// .. where so many are asked for from an offset on.
+    ReadsFrom(usize, u64, u32, &'static [u8]),
     /// .. aren't.
     ReadsNot(usize, &'static [u8]),
     /// The node has that number.
@@ -33,6 +35,8 @@ pub(crate) enum Call {
     Shows(usize, u64),
     /// .. of that name.
     ShowsNamed(&'static [u8], u64),
+    /// .. of that name, which is made, or opened where it is there.
+    ShowsMade(&'static [u8], u64),
     /// How many bytes the rows of the root have.
     Lists(usize),
     /// The rows of the root from an offset on, of so many bytes at most.
@@ -95,10 +99,11 @@ impl Caller {
             Call::FindsAgain(at, name) => self.folder.look(name) == number(&self.numbers, at),
             Call::FindsNone(name) => self.folder.look(name) == 0,
             Call::Makes(at, name) => {
-                let number = self.folder.create(name);
+                let (number, _) = self.folder.create(name);
                 self.is_new(at, number)
             }
-            Call::MakesNone(name) => self.folder.create(name) == 0,
+            Call::MakesNone(name) => self.folder.create(name).0 == 0,
+            Call::ShowsMade(name, size) => self.folder.create(name).1 == size,
             Call::ShowsNamed(name, size) => self.folder.size_at(name) == size,
             Call::Lists(len) => self.folder.rows_len() == len,
             Call::Rows(offset, size, rows) => self.folder.lists(offset, size, rows),
@@ -114,8 +119,11 @@ impl Caller {
             Call::Opens(at) => folder.open(number(numbers, at)),
             Call::Writes(at, from, bytes) => folder.write_at(number(numbers, at), from, bytes),
             Call::WritesNot(at, from, bytes) => !folder.write_at(number(numbers, at), from, bytes),
-            Call::Reads(at, bytes) => folder.reads(number(numbers, at), bytes),
-            Call::ReadsNot(at, bytes) => !folder.reads(number(numbers, at), bytes),
+            Call::Reads(at, bytes) => folder.reads(number(numbers, at), 0, 100, bytes),
+            Call::ReadsFrom(at, offset, size, bytes) => {
+                folder.reads(number(numbers, at), offset, size, bytes)
+            }
+            Call::ReadsNot(at, bytes) => !folder.reads(number(numbers, at), 0, 100, bytes),
             Call::Tells(at, asked, errno) => folder.errno(number(numbers, at), asked) == errno,
             Call::Shows(at, size) => folder.size(number(numbers, at)) == size,
             Call::IsNumbered(at, want) => number(numbers, at) == want,
@@ -125,15 +133,17 @@ impl Caller {
 }
 
 /// What is left at the end: so many files; bytes were put into one so often, and none were lost, or that error was told
-/// of what was; the disk was to be waited for so often; or that, how often bytes were put, and how often by the last
-/// time.
+/// of what was; they were to be put so often, be it in vain; the disk was to be waited for so often; or that, how often
+/// bytes were put, and how often by the last time; the root was listed so often.
 #[derive(Clone, Copy)]
 pub(crate) enum End {
     Files(usize),
     Stores(usize),
     Loses(usize, u32),
+    Patches(usize),
     Syncs(usize),
     Synced(usize, usize, usize),
+    Lists(usize),
 }
 
 fn is_left(left: Left, end: End) -> bool {
@@ -141,6 +151,8 @@ fn is_left(left: Left, end: End) -> bool {
         End::Files(files) => left.files == files,
         End::Stores(stores) => left.stores == stores && left.unstored.is_none(),
         End::Loses(stores, errno) => left.stores == stores && left.unstored == Some(errno),
+        End::Patches(patches) => left.patches == patches,
+        End::Lists(lists) => left.lists == lists,
         End::Syncs(syncs) => left.syncs == syncs,
         End::Synced(syncs, stores, stores_by_sync) => {
             left.syncs == syncs && left.stores == stores && left.stores_by_sync == stores_by_sync

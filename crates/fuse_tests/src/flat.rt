@@ -27,21 +27,29 @@ pub(crate) struct Flat {
     refused: &'static [u8],
     // Whether the disk can be waited for.
     has_disk: bool,
-    // How often bytes were put into a file.
+    // How often bytes were to be put into a file, and how often they were.
+    patches: usize,
     stores: usize,
     // How often the disk was to be waited for, and how often bytes had been put into a file by the last time.
     syncs: usize,
     stores_by_sync: usize,
+    // How often the root was listed.
+    lists: usize,
 }
+
+// So many files are listed at once.
+const MOST_LISTED: usize = 3;
 
 // How many files there are at last, how often what was done, and the error that the last stores met.
 #[derive(Clone, Copy)]
 pub(crate) struct Left {
     pub(crate) files: usize,
+    pub(crate) patches: usize,
     pub(crate) stores: usize,
     pub(crate) unstored: Option<u32>,
     pub(crate) syncs: usize,
     pub(crate) stores_by_sync: usize,
+    pub(crate) lists: usize,
 }
 
 // Puts bytes from an offset on in the place of what is there, behind zeros where there is a gap.
@@ -64,10 +72,18 @@ fn push_row(alloc: Global, rows: &mut Vec<(Name, Kind)>, name: &Name) -> Result<
 }
 
 // Whether a name comes behind that one, if there is one.
-fn is_after(name: &Name, after: &Option<Name>) -> bool {
+fn is_after(name: &Name, after: Option<&Name>) -> bool {
     match after {
         None => true,
         Some(after) => *after < *name,
+    }
+}
+
+// .. and before the other one, if there is one.
+fn is_between(name: &Name, after: Option<&Name>, before: Option<&Name>) -> bool {
+    match before {
+        None => is_after(name, after),
+        Some(before) => *name < *before && is_after(name, after),
     }
 }
 
@@ -112,17 +128,40 @@ impl Flat {
         Ok(Reply::Data(Bytes::new(Vec::from_slice(self.alloc, part)?)))
     }
 
-    fn list(&self, after: &Option<Name>) -> Result<Reply, AllocError> {
-        let mut rows = Vec::new(self.alloc);
+    // The first name behind that one.
+    fn next(&self, after: Option<&Name>) -> Option<&Name> {
+        let mut first = None;
         for file in self.files.as_slice() {
-            if is_after(&file.name, after) {
-                push_row(self.alloc, &mut rows, &file.name)?;
+            if is_between(&file.name, after, first) {
+                first = Some(&file.name);
             }
         }
-        Ok(Reply::Entries(Entries::new(rows), false))
+        first
+    }
+
+    fn list(&mut self, after: Option<&Name>) -> Result<Reply, AllocError> {
+        if self.lists < 1000 {
+            self.lists += 1;
+        }
+        let mut rows = Vec::new(self.alloc);
+        let mut last = after;
+        for _ in 0..MOST_LISTED {
+            match self.next(last) {
+                None => return Ok(Reply::Entries(Entries::new(rows), false)),
+                Some(name) => {
+                    push_row(self.alloc, &mut rows, name)?;
+                    last = Some(name);
+                }
+            }
+        }
+        let more = self.next(last).is_some();
+        Ok(Reply::Entries(Entries::new(rows), more))
     }
 
     fn write(&mut self, path: &Path, from: u64, bytes: &[u8]) -> Result<Reply, AllocError> {
+        if self.patches < 1000 {
+            self.patches += 1;
+        }
         let at = self.at(path).unwrap_or(usize::MAX);
         let Some(file) = self.files.as_mut_slice().get_mut(at) else {
             return Ok(Reply::Err(Errno::ENOENT));
@@ -212,7 +251,7 @@ impl Flat {
                 Some(kind) => Ok(Reply::Stat(kind, self.len(path), 77)),
             },
             Request::Read(path, from, count) => self.read(path, *from, *count),
-            Request::List(_, after, _) => self.list(after),
+            Request::List(_, after, _) => self.list(after.as_ref()),
             Request::Patch(path, from, bytes) => self.write(path, *from, bytes.as_slice()),
             Request::Create(path) => self.create(path),
             Request::Unlink(path) => Ok(self.unlink(path)),
@@ -319,9 +358,11 @@ pub(crate) fn make_folder(rt: &(impl AllocGlobal + Abort), start: Start) -> Fold
         files: make_files(rt, start.names),
         refused: start.refused,
         has_disk: start.has_disk,
+        patches: 0,
         stores: 0,
         syncs: 0,
         stores_by_sync: 0,
+        lists: 0,
     };
     let since = Time {
         seconds: 1,
@@ -383,8 +424,8 @@ impl Folder {
         )
     }
 
-    // The node that is made of that name, and is open; or 0.
-    pub(crate) fn create(&mut self, name: &[u8]) -> u64 {
+    // The node that is made of that name, and is open, and its size; or none.
+    pub(crate) fn create(&mut self, name: &[u8]) -> (u64, u64) {
         let making = CreateIn {
             flags: 0o101,
             mode: 0o100644,
@@ -392,17 +433,17 @@ impl Folder {
             open_flags: 0,
         };
         match self.call(1, Operation::Create(making, name)) {
-            Said::Answers(Answer::Created(entry, _)) => entry.nodeid,
-            _ => 0,
+            Said::Answers(Answer::Created(entry, _)) => (entry.nodeid, entry.attr.size),
+            _ => (0, 1000),
         }
     }
 
-    // Whether a node is read as these bytes.
-    pub(crate) fn reads(&mut self, node: u64, bytes: &[u8]) -> bool {
+    // Whether so many bytes of a node from an offset on are read as these.
+    pub(crate) fn reads(&mut self, node: u64, offset: u64, size: u32, bytes: &[u8]) -> bool {
         let reading = ReadIn {
             fh: 0,
-            offset: 0,
-            size: 100,
+            offset,
+            size,
             read_flags: 0,
             lock_owner: 0,
             flags: 0,
@@ -508,10 +549,12 @@ impl Folder {
         let (flat, unstored) = shown.into_mount();
         Left {
             files: flat.files.len(),
+            patches: flat.patches,
             stores: flat.stores,
             unstored,
             syncs: flat.syncs,
             stores_by_sync: flat.stores_by_sync,
+            lists: flat.lists,
         }
     }
 }

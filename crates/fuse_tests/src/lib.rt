@@ -22,6 +22,8 @@ mod nodes;
 #[cfg(test)]
 mod none;
 #[cfg(test)]
+mod seeing;
+#[cfg(test)]
 mod sent;
 #[cfg(test)]
 mod turns;

@@ -107,24 +107,6 @@ fn the_first_loss_is_told(rt: HostRuntime) {
     check(&rt, A_AS_IT_IS_AND_B, B_REMOVED, End::Loses(0, 5));
 }
 
-const SEEN: &[Call] = &[
-    Call::Finds(1, b"a"),
-    Call::Opens(1),
-    Call::Writes(1, 5, b" world"),
-    Call::Shows(1, 11),
-    Call::Writes(1, 11, b"!"),
-    Call::ShowsNamed(b"a", 12),
-    Call::Writes(1, 12, b"!"),
-    Call::Reads(1, b"hello world!!"),
-    Call::Reads(1, b"hello world!!"),
-];
-
-// Whoever looks sees it, by its node and by its name.
-#[test]
-fn what_waits_is_seen(rt: HostRuntime) {
-    check(&rt, A, SEEN, End::Stores(3));
-}
-
 const WRITTEN_OVER: &[Call] = &[
     Call::Finds(1, b"a"),
     Call::Opens(1),
@@ -193,7 +175,6 @@ const NOT_STORED: &[Call] = &[
     Call::Writes(1, 0, b"HEL"),
     Call::Tells(1, FLUSH, 5),
     Call::Tells(1, SYNC, 5),
-    Call::Shows(1, 1000),
     Call::WritesNot(1, 64 << 20, b"o"),
     Call::Writes(1, 0, b"hEL"),
     Call::Writes(1, 3, b"LO"),
@@ -205,7 +186,7 @@ const NOT_STORED: &[Call] = &[
     Call::Reads(1, b"hello"),
 ];
 
-// Where it can't be stored, whoever looks is told so, and it waits until the last close.
+// Where it can't be stored, it waits until the last close, and whoever flushes it is told so.
 #[test]
 fn what_is_not_stored_waits_until_it_is_closed(rt: HostRuntime) {
     check(&rt, A_AS_IT_IS, NOT_STORED, End::Stores(0));
