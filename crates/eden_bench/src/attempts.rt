@@ -1,6 +1,8 @@
 // Attempts of requests on a warm checkout: each kind of request again and again, nothing fetched.
 use crate::bench::Bench;
-use crate::checkout::{Place, Tree, Use, is_done, is_used, opened, path_in, request};
+use crate::checkout::{
+    Place, Tree, Use, add_request, do_all, does, is_used, opened, path_to, request,
+};
 use crate::keeps::Keeps;
 use crate::name::{deep, name};
 use eden_model::{Outside, Request};
@@ -58,11 +60,7 @@ fn repeat<F: Files<Outside>>(
 ) -> u32 {
     let mut done = 0u32;
     for _ in 0..rounds {
-        for request in requests {
-            if is_done(alloc, tree, request) {
-                done = done.saturating_add(1);
-            }
-        }
+        done = done.saturating_add(do_all(alloc, tree, requests));
     }
     done
 }
@@ -83,11 +81,22 @@ fn measure<F: Files<Outside>>(
     bench.time_each(what, start, done)
 }
 
+/// Makes the request so many times, and tells of it.
+fn measure_one<F: Files<Outside>>(
+    bench: Bench,
+    tree: &mut Tree<F>,
+    what: &str,
+    request: Request,
+    rounds: u32,
+) -> io::Result<()> {
+    measure(bench, tree, what, from_ref(&request), rounds)
+}
+
 /// Makes directories, one inside the other.
 fn make_chain<F: Files<Outside>>(alloc: Global, tree: &mut Tree<F>) -> Result<(), AllocError> {
     for depth in 1..=DEEPEST {
         if let Some(path) = deep(alloc, depth)? {
-            is_done(alloc, tree, &Request::Mkdir(path));
+            does(alloc, tree, Request::Mkdir(path));
         }
     }
     Ok(())
@@ -97,8 +106,7 @@ fn make_chain<F: Files<Outside>>(alloc: Global, tree: &mut Tree<F>) -> Result<()
 fn measure_kinds<F: Files<Outside>>(bench: Bench, tree: &mut Tree<F>) -> io::Result<()> {
     for (depth, what) in DEPTHS {
         if let Some(path) = deep(bench.alloc(), *depth)? {
-            let request = Request::Kind(path);
-            measure(bench, tree, what, from_ref(&request), LOOKS)?;
+            measure_one(bench, tree, what, Request::Kind(path), LOOKS)?;
         }
     }
     Ok(())
@@ -119,25 +127,32 @@ fn make_file<F: Files<Outside>>(
 fn measure_uses<F: Files<Outside>>(bench: Bench, tree: &mut Tree<F>) -> io::Result<()> {
     for (number, used, what) in USES {
         if let Some(request) = request(bench.alloc(), Place::Root, *number, *used)? {
-            measure(bench, tree, what, from_ref(&request), ROUNDS)?;
+            measure_one(bench, tree, what, request, ROUNDS)?;
         }
     }
     Ok(())
 }
 
-/// A page of the commit's directory, from its middle on.
+/// The request for a page of the commit's directory, from its middle on. None where its path is none.
+fn page(alloc: Global, count: u32) -> Result<Option<Request>, AllocError> {
+    match path_to(alloc, Place::Directory, None)? {
+        None => Ok(None),
+        Some(path) => {
+            let after = name(alloc, u64::from(count / 2))?;
+            Ok(Some(Request::List(path, after, 100)))
+        }
+    }
+}
+
+/// A page of the commit's directory.
 fn measure_pages<F: Files<Outside>>(
     bench: Bench,
     tree: &mut Tree<F>,
     count: u32,
 ) -> io::Result<()> {
-    let after = name(bench.alloc(), u64::from(count / 2))?;
-    match path_in(bench.alloc(), Place::Directory, None)? {
+    match page(bench.alloc(), count)? {
         None => Ok(()),
-        Some(path) => {
-            let request = Request::List(path, after, 100);
-            measure(bench, tree, "list of 100", from_ref(&request), ROUNDS)
-        }
+        Some(request) => measure_one(bench, tree, "list of 100", request, ROUNDS),
     }
 }
 
@@ -145,11 +160,25 @@ fn measure_pages<F: Files<Outside>>(
 fn coming_and_going(alloc: Global, number: u64) -> Result<Vec<Request>, AllocError> {
     let mut requests = Vec::new(alloc);
     for used in &[Use::Create, Use::Unlink] {
-        if let Some(request) = request(alloc, Place::Directory, number, *used)? {
-            requests.push(request)?;
-        }
+        add_request(alloc, &mut requests, Place::Directory, number, *used)?;
     }
     Ok(requests)
+}
+
+/// Makes a file in the commit's directory and removes it, again and again.
+fn measure_coming<F: Files<Outside>>(
+    bench: Bench,
+    tree: &mut Tree<F>,
+    count: u32,
+) -> io::Result<()> {
+    let requests = coming_and_going(bench.alloc(), u64::from(count).saturating_add(1))?;
+    measure(
+        bench,
+        tree,
+        "create and unlink",
+        requests.as_slice(),
+        ROUNDS,
+    )
 }
 
 /// Attempts over files, on a commit with a directory of so many files.
@@ -162,14 +191,7 @@ fn run_on<F: Files<Outside>>(bench: Bench, tree: &mut Tree<F>, count: u32) -> io
     }
     measure_uses(bench, tree)?;
     measure_pages(bench, tree, count)?;
-    let requests = coming_and_going(bench.alloc(), u64::from(count).saturating_add(1))?;
-    measure(
-        bench,
-        tree,
-        "create and unlink",
-        requests.as_slice(),
-        ROUNDS,
-    )
+    measure_coming(bench, tree, count)
 }
 
 /// Attempts over the files that are kept there.

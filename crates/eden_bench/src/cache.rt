@@ -23,6 +23,14 @@ struct Times {
     get: Option<f64>,
 }
 
+/// What came of the calls of one kind, and how long each took.
+#[derive(Clone, Copy)]
+struct Timed {
+    /// How many were refused, or found their object.
+    number: u32,
+    each: Option<f64>,
+}
+
 /// Knuth's linear congruential generator, its upper half.
 fn random(state: &mut u64) -> u32 {
     *state = state
@@ -35,24 +43,28 @@ fn random(state: &mut u64) -> u32 {
 fn next_id(state: &mut u64, entries: u32) -> Id {
     let number = u64::from(random(state)).checked_rem(u64::from(entries).saturating_mul(2));
     let mut bytes = [0; 20];
-    for (byte, digit) in bytes.iter_mut().zip(number.unwrap_or(0).to_be_bytes()) {
-        *byte = digit;
-    }
+    bytes[..8].copy_from_slice(&number.unwrap_or(0).to_be_bytes());
     Id { bytes }
 }
 
-/// So many times the blob of those bytes; never where they are none.
-fn objects(alloc: Global, framed: &[u8], count: u32) -> Result<Vec<Object>, AllocError> {
+/// Adds the blob of those bytes.
+fn add(alloc: Global, objects: &mut Vec<Object>, key: Key) -> Result<(), AllocError> {
+    let framed = Vec::from_slice(alloc, FRAMED)?;
+    match Object::checked(alloc, key, framed) {
+        Err(_) => Ok(()),
+        Ok(object) => Ok(objects.push(object)?),
+    }
+}
+
+/// So many times that blob.
+fn objects(alloc: Global, count: u32) -> Result<Vec<Object>, AllocError> {
     let key = Key {
         kind: ObjKind::Blob,
-        id: id_of(framed),
+        id: id_of(FRAMED),
     };
     let mut objects = Vec::new(alloc);
     for _ in 0..count {
-        let framed = Vec::from_slice(alloc, framed)?;
-        if let Ok(object) = Object::checked(alloc, key, framed) {
-            objects.push(object)?;
-        }
+        add(alloc, &mut objects, key)?;
     }
     Ok(objects)
 }
@@ -91,6 +103,28 @@ fn get_all(cache: &mut ObjectCache<Global>, count: u32, entries: u32) -> u32 {
     found
 }
 
+/// Puts so many objects.
+fn time_puts(
+    bench: Bench,
+    cache: &mut ObjectCache<Global>,
+    count: u32,
+    entries: u32,
+) -> Result<Timed, AllocError> {
+    let mut objects = objects(bench.alloc(), count)?;
+    let start = bench.start();
+    let number = put_all(cache, &mut objects, entries);
+    let each = bench.nanoseconds_each(start, count);
+    Ok(Timed { number, each })
+}
+
+/// Looks so many keys up.
+fn time_gets(bench: Bench, cache: &mut ObjectCache<Global>, count: u32, entries: u32) -> Timed {
+    let start = bench.start();
+    let number = get_all(cache, count, entries);
+    let each = bench.nanoseconds_each(start, count);
+    Timed { number, each }
+}
+
 /// Fills the cache, puts so many objects more and looks so many up.
 fn measure_calls(
     bench: Bench,
@@ -98,19 +132,17 @@ fn measure_calls(
     count: u32,
     entries: u32,
 ) -> io::Result<Times> {
-    let mut filling = objects(bench.alloc(), FRAMED, entries.saturating_mul(2))?;
-    let unfilled = put_all(cache, &mut filling, entries);
-    let mut objects = objects(bench.alloc(), FRAMED, count)?;
-    let start = bench.start();
-    let refused = put_all(cache, &mut objects, entries).saturating_add(unfilled);
-    let put = bench.nanoseconds_each(start, count);
-    let start = bench.start();
-    let found = get_all(cache, count, entries);
-    let get = bench.nanoseconds_each(start, count);
+    let filled = time_puts(bench, cache, entries.saturating_mul(2), entries)?;
+    let put = time_puts(bench, cache, count, entries)?;
+    let get = time_gets(bench, cache, count, entries);
+    let (refused, found) = (put.number.saturating_add(filled.number), get.number);
     println!(bench.rt;
         "cache of {entries}: {refused} of {count} puts refused, {found} of {count} gets found their object"
     )?;
-    Ok(Times { put, get })
+    Ok(Times {
+        put: put.each,
+        get: get.each,
+    })
 }
 
 fn measure(bench: Bench, count: u32, entries: u32) -> io::Result<Times>

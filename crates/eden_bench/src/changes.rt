@@ -6,10 +6,10 @@ ghost use Rattle.eden_tree.specs.Directory.{Row};
 ghost use Rattle.eden_coupling.specs.Filing.{HasFile};
 
 use crate::bench::{Bench, Part};
-use crate::inodes::{Table, entries_of, nest, rounds, tables};
+use crate::inodes::{Table, entries, nest, rounds, tables};
 use crate::keeps::Keeps;
 use crate::name::{chain, name};
-use crate::tree::{Order, tree_body};
+use crate::tree::{ID, Order};
 use eden_materialise::set_kind;
 use eden_model::{Kind, Name, Outside, TreeEntry};
 use eden_overlay::Files;
@@ -44,6 +44,19 @@ fn has_file<F: Files<Outside>>(table: &Table<F>, path: &[Name], name: &Name) -> 
     }
 }
 
+/// Gives the file of the table that kind. False where there is none, or where that fails.
+fn change<F: Files<Outside>>(
+    alloc: Global,
+    table: &mut Table<F>,
+    path: &[Name],
+    name: &Name,
+    kind: Kind,
+) -> bool
+    requires { kind ≢ kinds.Dir }
+{
+    has_file(table, path, name) && set_kind(table, alloc, path, name, kind).is_ok()
+}
+
 /// Gives the file of each table that kind, and answers of how many it was given.
 fn change_all<F: Files<Outside>>(
     alloc: Global,
@@ -56,9 +69,7 @@ fn change_all<F: Files<Outside>>(
 {
     let mut changed = 0u32;
     for table in tables {
-        if has_file(table, path, name) && set_kind(table, alloc, path, name, kind).is_ok() {
-            changed = changed.saturating_add(1);
-        }
+        changed = changed.saturating_add(u32::from(change(alloc, table, path, name, kind)));
     }
     changed
 }
@@ -84,13 +95,21 @@ fn measure_both<F: Files<Outside>>(
     bench: Bench,
     tables: &mut [Table<F>],
     path: &[Name],
+    name: &Name,
+) -> io::Result<()> {
+    measure(bench, tables, path, name, Kind::Exec, FIRST)?;
+    measure(bench, tables, path, name, Kind::File, SECOND)
+}
+
+/// Changes a file of each table, twice.
+fn measure_file<F: Files<Outside>>(
+    bench: Bench,
+    tables: &mut [Table<F>],
+    path: &[Name],
 ) -> io::Result<()> {
     match name(bench.alloc(), 1)? {
         None => println!(bench.rt; "  no name"),
-        Some(name) => {
-            measure(bench, tables, path, &name, Kind::Exec, FIRST)?;
-            measure(bench, tables, path, &name, Kind::File, SECOND)
-        }
+        Some(name) => measure_both(bench, tables, path, &name),
     }
 }
 
@@ -115,8 +134,7 @@ fn load_chains<F: Files<Outside>>(
     names: &[Name],
     count: u32,
 ) -> Result<usize, AllocError> {
-    let body = tree_body(alloc, Order::Chain, count)?;
-    let entries = entries_of(alloc, body.as_slice())?;
+    let entries = entries(alloc, Order::Chain(ID), count)?;
     nest_all(alloc, tables, names, entries.as_slice());
     Ok(entries.len())
 }
@@ -131,7 +149,7 @@ fn measure_tables<F: Files<Outside>>(
     let entries = load_chains(bench.alloc(), tables, names, count)?;
     let depth = names.len();
     println!(bench.rt; "changes at depth {depth}, directories of {entries} entries")?;
-    measure_both(bench, tables, &names[..depth.saturating_sub(1)])
+    measure_file(bench, tables, &names[..depth.saturating_sub(1)])
 }
 
 /// Changes a file below so many names, in directories of so many entries.

@@ -60,39 +60,74 @@ fn open<F: Files<Outside>>(alloc: Global, files: F, root: Id) -> Option<Tree<F>>
     Checkout::open(alloc, alloc, files, root, cache).ok()
 }
 
+/// The trees of a commit: the root, and its one directory.
+#[derive(Drop)]
+struct Commit {
+    root: Vec<u8>,
+    directory: Vec<u8>,
+}
+
+/// A commit whose directory has so many files.
+fn new_commit(alloc: Global, count: u32) -> Result<Commit, AllocError> {
+    let directory = framed_tree(alloc, Order::Git, count)?;
+    let root = framed_root(alloc, id_of(directory.as_slice()))?;
+    Ok(Commit { root, directory })
+}
+
+/// Puts both trees in. False where memory is refused.
+fn bring_both<F: Files<Outside>>(alloc: Global, tree: &mut Tree<F>, commit: Commit) -> bool {
+    bring(alloc, tree, commit.directory) && bring(alloc, tree, commit.root)
+}
+
+/// A checkout over these files of that commit. None where it isn't opened.
+fn open_commit<F: Files<Outside>>(alloc: Global, files: F, commit: Commit) -> Option<Tree<F>> {
+    let mut tree = open(alloc, files, id_of(commit.root.as_slice()))?;
+    if bring_both(alloc, &mut tree, commit) {
+        Some(tree)
+    } else {
+        None
+    }
+}
+
 /// A checkout over these files of a commit whose directory has so many files. None where it isn't opened.
 pub fn opened<F: Files<Outside>>(
     alloc: Global,
     files: F,
     count: u32,
 ) -> Result<Option<Tree<F>>, AllocError> {
-    let directory = framed_tree(alloc, Order::Git, count)?;
-    let root = framed_root(alloc, id_of(directory.as_slice()))?;
-    match open(alloc, files, id_of(root.as_slice())) {
-        None => Ok(None),
-        Some(mut tree) => {
-            let is_whole = bring(alloc, &mut tree, directory) && bring(alloc, &mut tree, root);
-            Ok(if is_whole { Some(tree) } else { None })
-        }
+    let commit = new_commit(alloc, count)?;
+    Ok(open_commit(alloc, files, commit))
+}
+
+/// The directory's name. None for the root.
+fn directory(alloc: Global, place: Place) -> Result<Option<Name>, AllocError> {
+    match place {
+        Place::Root => Ok(None),
+        Place::Directory => Ok(Name::new(Vec::from_slice(alloc, DIRECTORY)?).ok()),
     }
 }
 
-/// The path of these names in a directory. None where it is none.
-pub fn path_in(
-    alloc: Global,
-    place: Place,
-    name: Option<Name>,
-) -> Result<Option<Path>, AllocError> {
+/// The names on the way to a place and, where there is a number, to the file of that number.
+fn names_to(alloc: Global, place: Place, number: Option<u64>) -> Result<Vec<Name>, AllocError> {
     let mut names = Vec::new(alloc);
-    if matches!(place, Place::Directory)
-        && let Ok(directory) = Name::new(Vec::from_slice(alloc, DIRECTORY)?)
-    {
+    if let Some(directory) = directory(alloc, place)? {
         names.push(directory)?;
     }
-    if let Some(name) = name {
+    if let Some(number) = number
+        && let Some(name) = name(alloc, number)?
+    {
         names.push(name)?;
     }
-    Ok(Path::new(names).ok())
+    Ok(names)
+}
+
+/// The path to a place and, where there is a number, to the file of that number. None where it is none.
+pub fn path_to(
+    alloc: Global,
+    place: Place,
+    number: Option<u64>,
+) -> Result<Option<Path>, AllocError> {
+    Ok(Path::new(names_to(alloc, place, number)?).ok())
 }
 
 /// The request on the file at a path.
@@ -116,20 +151,29 @@ pub fn request(
     number: u64,
     what: Use,
 ) -> Result<Option<Request>, AllocError> {
-    let name = name(alloc, number)?;
-    match path_in(alloc, place, name)? {
+    match path_to(alloc, place, Some(number))? {
         None => Ok(None),
         Some(path) => Ok(Some(request_at(alloc, path, what)?)),
     }
 }
 
-/// Whether an attempt ends with a reply that is no error and no fault.
-pub fn is_done<F: Files<Outside>>(alloc: Global, tree: &mut Tree<F>, request: &Request) -> bool {
-    match tree.attempt(alloc, request, &mut None) {
+/// Whether an attempt ended with a reply that is no error and no fault.
+fn is_answer(attempt: &Attempt) -> bool {
+    match attempt {
         Attempt::Need(_) => false,
-        Attempt::Finished(Reply::Err(_) | Reply::Fault(_)) => false,
-        Attempt::Finished(_) => true,
+        Attempt::Finished(reply) => !matches!(reply, Reply::Err(_) | Reply::Fault(_)),
     }
+}
+
+/// Whether an attempt ends with a reply that is no error and no fault.
+fn is_done<F: Files<Outside>>(alloc: Global, tree: &mut Tree<F>, request: &Request) -> bool {
+    let attempt = tree.attempt(alloc, request, &mut None);
+    is_answer(&attempt)
+}
+
+/// Makes a request: whether it is done.
+pub fn does<F: Files<Outside>>(alloc: Global, tree: &mut Tree<F>, request: Request) -> bool {
+    is_done(alloc, tree, &request)
 }
 
 /// Whether the root's file of that number is so used.
@@ -141,6 +185,29 @@ pub fn is_used<F: Files<Outside>>(
 ) -> Result<bool, AllocError> {
     match request(alloc, Place::Root, number, what)? {
         None => Ok(false),
-        Some(request) => Ok(is_done(alloc, tree, &request)),
+        Some(request) => Ok(does(alloc, tree, request)),
     }
+}
+
+/// Adds the request on the file of that number, where it has a path.
+pub fn add_request(
+    alloc: Global,
+    requests: &mut Vec<Request>,
+    place: Place,
+    number: u64,
+    what: Use,
+) -> Result<(), AllocError> {
+    match request(alloc, place, number, what)? {
+        None => Ok(()),
+        Some(request) => Ok(requests.push(request)?),
+    }
+}
+
+/// Makes the requests in turn, and answers how many were done.
+pub fn do_all<F: Files<Outside>>(alloc: Global, tree: &mut Tree<F>, requests: &[Request]) -> u32 {
+    let mut done = 0u32;
+    for request in requests {
+        done = done.saturating_add(u32::from(is_done(alloc, tree, request)));
+    }
+    done
 }

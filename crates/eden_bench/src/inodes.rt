@@ -9,9 +9,9 @@ ghost use Rattle.eden_object.specs.Trees.{NamesDiffer};
 use crate::bench::{Bench, Part};
 use crate::keeps::{InMemory, Keeps};
 use crate::name::chain;
-use crate::tree::{Order, tree_body};
+use crate::tree::{ID, Order, tree_body};
 use eden_inode::Inodes;
-use eden_model::{Id, Name, Origin, Outside, TreeEntry};
+use eden_model::{Name, Origin, Outside, TreeEntry};
 use eden_object::decode_tree;
 use eden_overlay::{Files, MemoryFiles, Overlay};
 use eden_tree::Entry;
@@ -34,9 +34,6 @@ const PATHS: &[(usize, &str)] = &[
     (8, " looks at depth 8 found their entry"),
     (64, " looks at depth 64 found their entry"),
 ];
-
-/// The id of every directory: what it has is given.
-const ID: Id = Id { bytes: [0x2a; 20] };
 
 /// The first number that is given.
 pub const FIRST: u64 = 2;
@@ -65,6 +62,15 @@ pub type Table<F> = Inodes<Global, Outside, F>;
 /// A table over files in memory.
 type Kept = Table<MemoryFiles<Outside>>;
 
+/// A table whose root is an object and isn't loaded.
+pub fn table<F: Files<Outside>, K: Keeps<F>>(
+    alloc: Global,
+    keeps: &K,
+) -> Result<Table<F>, AllocError> {
+    let overlay = Overlay::new(alloc, keeps.files(alloc)?);
+    Ok(Inodes::new(alloc, overlay, Origin::Object(ID), FIRST))
+}
+
 /// So many tables whose roots are objects and aren't loaded.
 pub fn tables<F: Files<Outside>, K: Keeps<F>>(
     alloc: Global,
@@ -73,20 +79,27 @@ pub fn tables<F: Files<Outside>, K: Keeps<F>>(
 ) -> Result<Vec<Table<F>>, AllocError> {
     let mut tables = Vec::new(alloc);
     for _ in 0..count {
-        let overlay = Overlay::new(alloc, keeps.files(alloc)?);
-        tables.push(Inodes::new(alloc, overlay, Origin::Object(ID), FIRST))?;
+        tables.push(table(alloc, keeps)?)?;
     }
     Ok(tables)
 }
 
 /// The entries of a tree's body; none where it is no tree's.
-pub fn entries_of(alloc: Global, body: &[u8]) -> Result<Vec<TreeEntry>, AllocError>
+fn entries_of(alloc: Global, body: &[u8]) -> Result<Vec<TreeEntry>, AllocError>
     ensures { IfOk result (λ v. NamesDiffer v.items) }
 {
     match decode_tree(alloc, body)? {
         None => Ok(Vec::new(alloc)),
         Some(entries) => Ok(entries),
     }
+}
+
+/// So many entries, as the order says.
+pub fn entries(alloc: Global, order: Order, count: u32) -> Result<Vec<TreeEntry>, AllocError>
+    ensures { IfOk result (λ v. NamesDiffer v.items) }
+{
+    let body = tree_body(alloc, order, count)?;
+    entries_of(alloc, body.as_slice())
 }
 
 /// How many entries the readings found.
@@ -191,29 +204,45 @@ fn measure_reads(bench: Bench, body: &[u8], rounds: u32, all: u32) -> io::Result
     bench.tell(READ, found as u64, start, all)
 }
 
-/// Loads the root of so many tables from those entries, so many in all, and unloads it.
+/// Loads the root of each table from those entries, so many in all, and unloads it.
+fn measure_tables(
+    bench: Bench,
+    tables: &mut [Kept],
+    entries: &[TreeEntry],
+    all: u32,
+) -> io::Result<()>
+    requires { NamesDiffer entries.now }
+{
+    let start = bench.start();
+    let given = load_all(bench.alloc(), tables, entries);
+    bench.tell(LOADED, given, start, all)?;
+    let start = bench.start();
+    let gone = unload_all(bench.alloc(), tables);
+    bench.tell(UNLOADED, gone, start, all)
+}
+
+/// Loads the root of so many tables from those entries, and unloads it.
 fn measure_loads(bench: Bench, entries: &[TreeEntry], rounds: u32, all: u32) -> io::Result<()>
     requires { NamesDiffer entries.now }
 {
     let mut tables = tables(bench.alloc(), &InMemory, rounds)?;
-    let start = bench.start();
-    let given = load_all(bench.alloc(), tables.as_mut_slice(), entries);
-    bench.tell(LOADED, given, start, all)?;
-    let start = bench.start();
-    let gone = unload_all(bench.alloc(), tables.as_mut_slice());
-    bench.tell(UNLOADED, gone, start, all)
+    measure_tables(bench, tables.as_mut_slice(), entries, all)
+}
+
+/// Directories of the entries of a tree's body.
+fn measure_body(bench: Bench, body: &[u8], rounds: u32, all: u32) -> io::Result<()> {
+    measure_reads(bench, body, rounds, all)?;
+    let entries = entries_of(bench.alloc(), body)?;
+    measure_loads(bench, entries.as_slice(), rounds, all)
 }
 
 /// Directories of so many entries, which stand in that order.
 fn measure_directory(bench: Bench, order: Order, count: u32) -> io::Result<()> {
     let rounds = rounds(ENTRIES, count);
-    let all = rounds.saturating_mul(count);
     let text = order.text();
     println!(bench.rt; "directories of {count} entries in {text}, {rounds} of them")?;
     let body = tree_body(bench.alloc(), order, count)?;
-    measure_reads(bench, body.as_slice(), rounds, all)?;
-    let entries = entries_of(bench.alloc(), body.as_slice())?;
-    measure_loads(bench, entries.as_slice(), rounds, all)
+    measure_body(bench, body.as_slice(), rounds, rounds.saturating_mul(count))
 }
 
 /// How many of the looks found an entry under the last name.
@@ -255,13 +284,9 @@ fn measure_nested(bench: Bench, table: &mut Kept, entries: &[TreeEntry]) -> io::
 
 /// Looks along paths of several lengths, through directories of one entry each.
 fn measure_paths(bench: Bench) -> io::Result<()> {
-    let body = tree_body(bench.alloc(), Order::Chain, 1)?;
-    let entries = entries_of(bench.alloc(), body.as_slice())?;
-    let mut tables = tables(bench.alloc(), &InMemory, 1)?;
-    match tables.first_mut() {
-        None => Ok(()),
-        Some(table) => measure_nested(bench, table, entries.as_slice()),
-    }
+    let entries = entries(bench.alloc(), Order::Chain(ID), 1)?;
+    let mut table = table(bench.alloc(), &InMemory)?;
+    measure_nested(bench, &mut table, entries.as_slice())
 }
 
 /// Reads, loads and unloads directories of so many entries, in Git's order and in a random one, and looks along paths.

@@ -96,10 +96,15 @@ fn measure_writing(bench: Bench, count: u32) -> io::Result<()> {
     exchange(bench, "write of 4 KB: ", line.as_slice(), &written, count)
 }
 
+/// A kind that is asked for.
+fn measure_kinds(bench: Bench, count: u32) -> io::Result<()> {
+    let kind = Reply::Kind(Kind::File);
+    exchange(bench, "kind: ", b"kind /folder/file.txt", &kind, count)
+}
+
 /// Reads and writes so many of each of three requests: a kind, a page that is read, and a page that is written.
 pub fn run(bench: Bench, count: u32) -> io::Result<()> {
-    let kind = Reply::Kind(Kind::File);
-    exchange(bench, "kind: ", b"kind /folder/file.txt", &kind, count)?;
+    measure_kinds(bench, count)?;
     measure_reading(bench, count)?;
     measure_writing(bench, count)
 }

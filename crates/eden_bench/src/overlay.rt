@@ -100,16 +100,23 @@ fn measure_decoding(bench: Bench, file: &[u8], rounds: u32, all: u32) -> io::Res
     bench.tell(DECODED, found as u64, start, all)
 }
 
-/// Encodes and decodes the stored file of a directory of so many entries, again and again.
-pub fn run(bench: Bench, count: u32) -> io::Result<()> {
-    let rounds = ENTRIES.checked_div(count).unwrap_or(ENTRIES);
-    let entries = entries(bench.alloc(), count)?;
-    measure_encoding(bench, entries.as_slice(), count, rounds)?;
-    match encoded(bench.alloc(), entries.as_slice()) {
+/// Encodes and decodes the stored file of these entries, so many times.
+fn measure_both(bench: Bench, entries: &[StoredEntry], count: u32, rounds: u32) -> io::Result<()>
+    requires { AllByRecursion IsStorable entries.now }
+{
+    measure_encoding(bench, entries, count, rounds)?;
+    match encoded(bench.alloc(), entries) {
         None => println!(bench.rt; "not encoded"),
         Some(file) => {
             let all = rounds.saturating_mul(count);
             measure_decoding(bench, file.as_slice(), rounds, all)
         }
     }
+}
+
+/// Encodes and decodes the stored file of a directory of so many entries, again and again.
+pub fn run(bench: Bench, count: u32) -> io::Result<()> {
+    let rounds = ENTRIES.checked_div(count).unwrap_or(ENTRIES);
+    let entries = entries(bench.alloc(), count)?;
+    measure_both(bench, entries.as_slice(), count, rounds)
 }

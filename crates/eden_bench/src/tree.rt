@@ -8,13 +8,18 @@ use eden_object::{Object, id_of};
 use std::alloc::{AllocError, Global};
 use std::io;
 
+/// The id of most entries.
+pub const ID: Id = Id {
+    bytes: *b"********************",
+};
+
 /// The order in which the entries of a tree stand, and what they are.
 #[derive(Clone, Copy)]
 pub enum Order {
     Git,
     Random,
-    /// In Git's order, the first entry a directory.
-    Chain,
+    /// In Git's order, the first entry a directory of that id.
+    Chain(Id),
     /// In Git's order, each entry a directory.
     Directories,
 }
@@ -38,9 +43,17 @@ impl Order {
     /// The mode of the entry at a place.
     fn mode(self, place: u32) -> &'static str {
         match self {
-            Order::Chain if place == 0 => "40000",
+            Order::Chain(_) if place == 0 => "40000",
             Order::Directories => "40000",
             _ => "100644",
+        }
+    }
+
+    /// The id of the entry at a place.
+    fn id(self, place: u32) -> Id {
+        match self {
+            Order::Chain(id) if place == 0 => id,
+            _ => ID,
         }
     }
 }
@@ -52,34 +65,31 @@ fn mixed(number: u32) -> u32 {
     number ^ (number >> 16)
 }
 
-/// The body of a tree of so many entries, all of one id: files, but for what the order says.
+/// Adds the entry at a place to a tree's body.
+fn add_entry(
+    alloc: Global,
+    body: &mut Vec<u8>,
+    order: Order,
+    place: u32,
+) -> Result<(), AllocError> {
+    let (mode, number) = (order.mode(place), order.number(place));
+    let name = format!(in alloc; "{mode} file{number:010}\0")?;
+    body.extend_from_slice(name.as_bytes())?;
+    body.extend_from_slice(order.id(place).bytes.as_slice())
+}
+
+/// The body of a tree of so many entries: files, all of one id, but for what the order says.
 pub fn tree_body(alloc: Global, order: Order, count: u32) -> Result<Vec<u8>, AllocError> {
     let mut body = Vec::new(alloc);
     for place in 0..count {
-        let mode = order.mode(place);
-        let number = order.number(place);
-        let entry = format!(in alloc; "{mode} file{number:010}\0********************")?;
-        body.extend_from_slice(entry.as_bytes())?;
+        add_entry(alloc, &mut body, order, place)?;
     }
     Ok(body)
 }
 
-/// The framed tree of so many files.
+/// The framed tree of so many entries.
 pub fn framed_tree(alloc: Global, order: Order, count: u32) -> Result<Vec<u8>, AllocError> {
     let body = tree_body(alloc, order, count)?;
-    let mut framed = format!(in alloc; "tree {}\0", body.len())?.into_bytes();
-    framed.extend_from_slice(body.as_slice())?;
-    Ok(framed)
-}
-
-/// The framed tree of a directory with that id and of files behind it, so many entries in all.
-pub fn framed_above(alloc: Global, below: Id, count: u32) -> Result<Vec<u8>, AllocError> {
-    let mut body = format!(in alloc; "40000 file{:010}\0", 0)?.into_bytes();
-    body.extend_from_slice(below.bytes.as_slice())?;
-    for number in 1..count {
-        let entry = format!(in alloc; "100644 file{number:010}\0********************")?;
-        body.extend_from_slice(entry.as_bytes())?;
-    }
     let mut framed = format!(in alloc; "tree {}\0", body.len())?.into_bytes();
     framed.extend_from_slice(body.as_slice())?;
     Ok(framed)
@@ -108,14 +118,20 @@ fn check(bench: Bench, id: Id, framed: Vec<u8>) -> io::Result<()> {
     }
 }
 
-/// Digests a tree of so many entries, checks it and reads its entries.
-fn run_in(bench: Bench, order: Order, count: u32) -> io::Result<()> {
-    let framed = framed_tree(bench.alloc(), order, count)?;
+/// Digests a tree of so many entries in that order.
+fn digest(bench: Bench, order: Order, count: u32, framed: &[u8]) -> io::Result<Id> {
     let (text, length) = (order.text(), framed.len());
     println!(bench.rt; "tree of {count} entries in {text}, {length} bytes")?;
     let start = bench.start();
-    let id = id_of(framed.as_slice());
+    let id = id_of(framed);
     bench.time("SHA-1", start)?;
+    Ok(id)
+}
+
+/// Digests a tree of so many entries, checks it and reads its entries.
+fn run_in(bench: Bench, order: Order, count: u32) -> io::Result<()> {
+    let framed = framed_tree(bench.alloc(), order, count)?;
+    let id = digest(bench, order, count, framed.as_slice())?;
     check(bench, id, framed)
 }
 

@@ -1,17 +1,16 @@
 // Directories of the commit that were looked into and go, each with the numbers of its entries saved in a file; and, to
 // be run over other files, as many stores of files of that size.
-ghost use Rattle.std.specs.Prelude.{IfOk};
 ghost use Rattle.eden_object.specs.Trees.{NamesDiffer};
 
 use crate::bench::{Bench, Part};
-use crate::inodes::{FIRST, Table, entries_of, load, tables};
+use crate::inodes::{FIRST, Table, entries, load, table};
 use crate::keeps::Keeps;
 use crate::name::names;
-use crate::tree::{Order, tree_body};
+use crate::tree::Order;
 use eden_model::{Name, Outside, TreeEntry};
 use eden_overlay::{Files, Overlay};
 use eden_overlay_format::Spliced;
-use std::alloc::{AllocError, Global};
+use std::alloc::Global;
 use std::io;
 use std::slice::from_ref;
 
@@ -23,6 +22,9 @@ const SIZE: usize = HEADER + 20 + 4 + 8 * (31 + 14);
 
 /// The bytes of a stored file's header, which has the digest of what is behind it.
 const HEADER: usize = 64;
+
+/// What such a file has behind its header.
+const CONTENT: &[u8; SIZE - HEADER] = &[0x2a; SIZE - HEADER];
 
 const LOADED: Part = Part {
     before: "  directories loaded: ",
@@ -54,14 +56,6 @@ const STORED: Part = Part {
     time: "store, a file",
 };
 
-/// So many entries, as the order says.
-fn entries(alloc: Global, order: Order, count: u32) -> Result<Vec<TreeEntry>, AllocError>
-    ensures { IfOk result (λ v. NamesDiffer v.items) }
-{
-    let body = tree_body(alloc, order, count)?;
-    entries_of(alloc, body.as_slice())
-}
-
 /// Loads the root and each directory in it, and answers how many are loaded.
 fn load_all<F: Files<Outside>>(
     alloc: Global,
@@ -87,7 +81,8 @@ fn measure<F: Files<Outside>>(
     names: &[Name],
     above: &[TreeEntry],
     below: &[TreeEntry],
-    parts: (Part, Part),
+    loads: Part,
+    goes: Part,
 ) -> io::Result<()>
     requires above { NamesDiffer above.now }
     requires below { NamesDiffer below.now }
@@ -95,10 +90,10 @@ fn measure<F: Files<Outside>>(
     let count = u32::try_from(names.len()).unwrap_or(u32::MAX);
     let start = bench.start();
     let loaded = load_all(bench.alloc(), table, names, above, below);
-    bench.tell(parts.0, loaded, start, count)?;
+    bench.tell(loads, loaded, start, count)?;
     let start = bench.start();
     let gone = table.unload(bench.alloc(), &[], 0).count;
-    bench.tell(parts.1, gone, start, count)
+    bench.tell(goes, gone, start, count)
 }
 
 /// Stores that content as so many files, and answers how many were stored. Their numbers are those that the directories
@@ -124,13 +119,35 @@ fn store_all<F: Files<Outside>>(
 /// As many files of that size, stored one after another.
 fn measure_stores<F: Files<Outside>>(bench: Bench, files: F, count: u32) -> io::Result<()> {
     let mut overlay = Overlay::new(bench.alloc(), files);
-    let content = [0x2a; SIZE - HEADER];
     let start = bench.start();
-    let stored = store_all(bench.alloc(), &mut overlay, &content, count);
+    let stored = store_all(bench.alloc(), &mut overlay, CONTENT, count);
     bench.tell(STORED, u64::from(stored), start, count)
 }
 
 /// Loads and unloads a root and its directories twice: the first time their numbers are saved.
+fn measure_twice<F: Files<Outside>>(
+    bench: Bench,
+    table: &mut Table<F>,
+    names: &[Name],
+    above: &[TreeEntry],
+    below: &[TreeEntry],
+) -> io::Result<()>
+    requires above { NamesDiffer above.now }
+    requires below { NamesDiffer below.now }
+{
+    measure(bench, table, names, above, below, LOADED, SAVED)?;
+    measure(
+        bench,
+        table,
+        names,
+        above,
+        below,
+        LOADED_AGAIN,
+        SAVED_BEFORE,
+    )
+}
+
+/// Loads and unloads a root and so many directories in it.
 fn measure_table<F: Files<Outside>>(
     bench: Bench,
     table: &mut Table<F>,
@@ -139,26 +156,20 @@ fn measure_table<F: Files<Outside>>(
     let above = entries(bench.alloc(), Order::Directories, count)?;
     let below = entries(bench.alloc(), Order::Git, FILES)?;
     let names = names(bench.alloc(), count, 1, count)?;
-    let (names, above, below) = (names.as_slice(), above.as_slice(), below.as_slice());
-    measure(bench, table, names, above, below, (LOADED, SAVED))?;
-    measure(
+    measure_twice(
         bench,
         table,
-        names,
-        above,
-        below,
-        (LOADED_AGAIN, SAVED_BEFORE),
+        names.as_slice(),
+        above.as_slice(),
+        below.as_slice(),
     )
 }
 
 /// A root with so many directories over the files that are kept there.
 pub fn run<F: Files<Outside>, K: Keeps<F>>(bench: Bench, keeps: &K, count: u32) -> io::Result<()> {
     println!(bench.rt; "{count} directories of {FILES} files, each stored in {SIZE} bytes")?;
-    let mut tables = tables(bench.alloc(), keeps, 1)?;
-    match tables.first_mut() {
-        None => Ok(()),
-        Some(table) => measure_table(bench, table, count),
-    }
+    let mut table = table(bench.alloc(), keeps)?;
+    measure_table(bench, &mut table, count)
 }
 
 /// So many files of the size of such a directory's, over the files that are kept there.

@@ -4,9 +4,9 @@ ghost use Rattle.std.specs.Prelude.{◌≡◌};
 ghost use Rattle.eden_ops.specs.Trails.{LeadsFor};
 
 use crate::bench::Bench;
-use crate::checkout::{Place as Stands, Tree, Use, is_done, opened, request};
+use crate::checkout::{Place as Stands, Tree, Use, add_request, do_all, opened};
 use crate::name::{deep, turned};
-use crate::tree::framed_above;
+use crate::tree::{ID, Order, framed_tree};
 use eden_cache::{ObjectCache, Stock};
 use eden_history::Counted;
 use eden_inode::Inodes;
@@ -46,6 +46,9 @@ const WAYS: &[(Way, &str)] = &[
     (Way::AtItsPlace, "each turn at its place"),
     (Way::FromTheRoot, "each turn from the root"),
 ];
+
+/// A mount over a tree in which callers wait.
+type Waiting = Mount<Outside, Tree<MemoryFiles<Outside>>, Global, Counted>;
 
 /// A table over no files with a cache, and how many names its attempts compared.
 #[derive(Drop)]
@@ -127,9 +130,9 @@ fn go_down(
 /// The trees of a commit from its root on, each with so many entries, of which the first is the next tree.
 fn chain(alloc: Global, count: u32) -> Result<Vec<Vec<u8>>, AllocError> {
     let mut trees = Vec::new(alloc);
-    let mut below = Id { bytes: [0x2a; 20] };
+    let mut below = ID;
     for _ in 0..DEEPEST {
-        let tree = framed_above(alloc, below, count)?;
+        let tree = framed_tree(alloc, Order::Chain(below), count)?;
         below = id_of(tree.as_slice());
         trees.push(tree)?;
     }
@@ -137,24 +140,18 @@ fn chain(alloc: Global, count: u32) -> Result<Vec<Vec<u8>>, AllocError> {
     Ok(trees)
 }
 
-/// A look below all these trees, which come one by one.
-fn measure_chain(bench: Bench, trees: &[Vec<u8>], way: Way, what: &str) -> io::Result<()> {
-    let alloc = bench.alloc();
-    let (Some(root), Some(path)) = (trees.first(), deep(alloc, DEEPEST)?) else {
-        return Ok(());
-    };
-    let Some(mut ground) = fresh(alloc, id_of(root.as_slice())) else {
-        return Ok(());
-    };
+/// A request on such a table, whose trees come one by one.
+fn measure_turns(
+    bench: Bench,
+    ground: &mut Ground,
+    request: &Request,
+    way: Way,
+    what: &str,
+    trees: &[Vec<u8>],
+) -> io::Result<()> {
     let start = bench.start();
-    let turns = go_down(
-        alloc,
-        &mut ground,
-        &Request::Kind(path),
-        way,
-        &mut Place::new(),
-        trees,
-    )?;
+    let mut place = Place::new();
+    let turns = go_down(bench.alloc(), ground, request, way, &mut place, trees)?;
     println!(bench.rt;
         "  {what}: {turns} turns compared {} names",
         ground.compared
@@ -162,14 +159,49 @@ fn measure_chain(bench: Bench, trees: &[Vec<u8>], way: Way, what: &str) -> io::R
     bench.time(what, start)
 }
 
+/// A request below all these trees, which come one by one.
+fn measure_chain(
+    bench: Bench,
+    request: &Request,
+    way: Way,
+    what: &str,
+    trees: &[Vec<u8>],
+) -> io::Result<()> {
+    let Some(root) = trees.first() else {
+        return Ok(());
+    };
+    match fresh(bench.alloc(), id_of(root.as_slice())) {
+        None => Ok(()),
+        Some(mut ground) => measure_turns(bench, &mut ground, request, way, what, trees),
+    }
+}
+
+/// A look below all these trees, each way.
+fn measure_ways(bench: Bench, trees: &[Vec<u8>]) -> io::Result<()> {
+    match deep(bench.alloc(), DEEPEST)? {
+        None => Ok(()),
+        Some(path) => {
+            let request = Request::Kind(path);
+            for (way, what) in WAYS {
+                measure_chain(bench, &request, *way, what, trees)?;
+            }
+            Ok(())
+        }
+    }
+}
+
 /// Reads of files in one directory, each of another file.
 fn reads(alloc: Global, count: u32) -> Result<Vec<Request>, AllocError> {
     let mut reads = Vec::new(alloc);
     for caller in 0..CALLERS {
         let number = turned(caller, 7_919, count);
-        if let Some(read) = request(alloc, Stands::Directory, number, Use::Read(0, 1))? {
-            reads.push(read)?;
-        }
+        add_request(
+            alloc,
+            &mut reads,
+            Stands::Directory,
+            number,
+            Use::Read(0, 1),
+        )?;
     }
     Ok(reads)
 }
@@ -180,35 +212,23 @@ fn time_from_the_root(
     tree: &mut Tree<MemoryFiles<Outside>>,
     reads: &[Request],
 ) -> io::Result<()> {
-    for read in reads {
-        is_done(bench.alloc(), tree, read);
-    }
+    do_all(bench.alloc(), tree, reads);
     let start = bench.start();
     for _ in 0..TURNS {
-        for read in reads {
-            is_done(bench.alloc(), tree, read);
-        }
+        do_all(bench.alloc(), tree, reads);
     }
     let turns = TURNS.saturating_mul(CALLERS);
     bench.time_each("a turn from the root", start, turns)
 }
 
-/// How long a turn takes where each goes on at its pass's place.
-fn time_at_their_places(
-    bench: Bench,
-    tree: Tree<MemoryFiles<Outside>>,
-    reads: Vec<Request>,
-) -> io::Result<()> {
-    let alloc = bench.alloc();
-    let Some(config) = Config::new(CALLERS, 1, CALLERS, 1, 1, 1) else {
-        return Ok(());
-    };
-    let room = Room::new(alloc, alloc, &config)?;
-    let mut mount: Mount<Outside, Tree<MemoryFiles<Outside>>, Global, Counted> = Mount::new(
-        room,
-        tree,
-        Counted::new(alloc),
-    );
+/// Room for a mount of all callers. None where memory is refused.
+fn room(alloc: Global) -> Option<Room<Global>> {
+    let config = Config::new(CALLERS, 1, CALLERS, 1, 1, 1)?;
+    Room::new(alloc, alloc, &config).ok()
+}
+
+/// Each pass starts one of the reads, and has a turn.
+fn start_all(mount: &mut Waiting, reads: Vec<Request>) {
     let mut pass = 0u32;
     for read in reads {
         pass = pass.saturating_add(1);
@@ -216,26 +236,51 @@ fn time_at_their_places(
             mount.turn(pass);
         }
     }
+}
+
+/// A turn of each pass.
+fn turn_all(mount: &mut Waiting) {
+    for pass in 1..=CALLERS {
+        mount.turn(pass);
+    }
+}
+
+/// How long a turn takes where each goes on at its pass's place.
+fn time_at_their_places(bench: Bench, mount: &mut Waiting, reads: Vec<Request>) -> io::Result<()> {
+    start_all(mount, reads);
     let start = bench.start();
     for _ in 0..TURNS {
-        for pass in 1..=CALLERS {
-            mount.turn(pass);
-        }
+        turn_all(mount);
     }
     let turns = TURNS.saturating_mul(CALLERS);
     bench.time_each("a turn at its place", start, turns)
 }
 
+/// How long a turn takes on a mount over the tree, whose passes wait in it.
+fn time_on_a_mount(
+    bench: Bench,
+    tree: Tree<MemoryFiles<Outside>>,
+    reads: Vec<Request>,
+) -> io::Result<()> {
+    match room(bench.alloc()) {
+        None => Ok(()),
+        Some(room) => {
+            let mut mount = Waiting::new(room, tree, Counted::new(bench.alloc()));
+            time_at_their_places(bench, &mut mount, reads)
+        }
+    }
+}
+
 /// Callers that wait for files of one directory with so many.
 fn measure_callers(bench: Bench, count: u32) -> io::Result<()> {
     println!(bench.rt; "{CALLERS} callers in a directory of {count} files")?;
+    let reads = reads(bench.alloc(), count)?;
     let files = MemoryFiles::new(bench.alloc());
     match opened(bench.alloc(), files, count)? {
         None => println!(bench.rt; "  not opened"),
         Some(mut tree) => {
-            let reads = reads(bench.alloc(), count)?;
             time_from_the_root(bench, &mut tree, reads.as_slice())?;
-            time_at_their_places(bench, tree, reads)
+            time_on_a_mount(bench, tree, reads)
         }
     }
 }
@@ -247,8 +292,6 @@ pub fn run(bench: Bench, count: u32) -> io::Result<()> {
         "a look below {DEEPEST} directories of {width} entries that come one by one"
     )?;
     let trees = chain(bench.alloc(), width)?;
-    for (way, what) in WAYS {
-        measure_chain(bench, trees.as_slice(), *way, what)?;
-    }
+    measure_ways(bench, trees.as_slice())?;
     measure_callers(bench, count)
 }
