@@ -173,7 +173,9 @@ fn is_done<F: Files<Outside>>(alloc: Global, tree: &mut Tree<F>, request: &Reque
 
 /// Makes a request: whether it is done.
 pub fn does<F: Files<Outside>>(alloc: Global, tree: &mut Tree<F>, request: Request) -> bool {
-    is_done(alloc, tree, &request)
+    let is_done = is_done(alloc, tree, &request);
+    drop(request);
+    is_done
 }
 
 /// Whether the root's file of that number is so used.

@@ -28,7 +28,10 @@ impl Write for Counter {
 
 /// Whether the line is a request's.
 fn asks(alloc: Global, line: &[u8]) -> bool {
-    matches!(read_request(alloc, line), Ok(Item::Asks(_)))
+    let item = read_request(alloc, line);
+    let is_request = matches!(&item, Ok(Item::Asks(_)));
+    drop(item);
+    is_request
 }
 
 /// How many of the readings found a request.
