@@ -89,7 +89,9 @@ fn measure_one<F: Files<Outside>>(
     request: Request,
     rounds: u32,
 ) -> io::Result<()> {
-    measure(bench, tree, what, from_ref(&request), rounds)
+    let told = measure(bench, tree, what, from_ref(&request), rounds);
+    drop(request);
+    told
 }
 
 /// Makes directories, one inside the other.
@@ -181,15 +183,25 @@ fn measure_coming<F: Files<Outside>>(
     )
 }
 
-/// Attempts over files, on a commit with a directory of so many files.
-fn run_on<F: Files<Outside>>(bench: Bench, tree: &mut Tree<F>, count: u32) -> io::Result<()> {
-    println!(bench.rt; "attempts, a directory of {count} files among them")?;
+/// Directories, one inside the other, that are looked at.
+fn measure_chain<F: Files<Outside>>(bench: Bench, tree: &mut Tree<F>) -> io::Result<()> {
     make_chain(bench.alloc(), tree)?;
-    measure_kinds(bench, tree)?;
+    measure_kinds(bench, tree)
+}
+
+/// Files of each size, that are read and written.
+fn measure_files<F: Files<Outside>>(bench: Bench, tree: &mut Tree<F>) -> io::Result<()> {
     for size in SIZES {
         make_file(bench.alloc(), tree, *size)?;
     }
-    measure_uses(bench, tree)?;
+    measure_uses(bench, tree)
+}
+
+/// Attempts over files, on a commit with a directory of so many files.
+fn run_on<F: Files<Outside>>(bench: Bench, tree: &mut Tree<F>, count: u32) -> io::Result<()> {
+    println!(bench.rt; "attempts, a directory of {count} files among them")?;
+    measure_chain(bench, tree)?;
+    measure_files(bench, tree)?;
     measure_pages(bench, tree, count)?;
     measure_coming(bench, tree, count)
 }
@@ -199,6 +211,10 @@ pub fn run<F: Files<Outside>, K: Keeps<F>>(bench: Bench, keeps: &K, count: u32) 
     let files = keeps.files(bench.alloc())?;
     match opened(bench.alloc(), files, count)? {
         None => println!(bench.rt; "not opened"),
-        Some(mut tree) => run_on(bench, &mut tree, count),
+        Some(mut tree) => {
+            let told = run_on(bench, &mut tree, count);
+            drop(tree);
+            told
+        }
     }
 }

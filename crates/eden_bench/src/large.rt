@@ -94,6 +94,10 @@ pub fn run<F: Files<Outside>, K: Keeps<F>>(bench: Bench, keeps: &K, count: u32) 
     let files = keeps.files(bench.alloc())?;
     match opened(bench.alloc(), files, 1)? {
         None => println!(bench.rt; "not opened"),
-        Some(mut tree) => run_on(bench, &mut tree, count),
+        Some(mut tree) => {
+            let told = run_on(bench, &mut tree, count);
+            drop(tree);
+            told
+        }
     }
 }

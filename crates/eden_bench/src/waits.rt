@@ -176,16 +176,23 @@ fn measure_chain(
     }
 }
 
+/// A request below all these trees, each way.
+fn measure_ways(bench: Bench, request: &Request, trees: &[Vec<u8>]) -> io::Result<()> {
+    for (way, what) in WAYS {
+        measure_chain(bench, request, *way, what, trees)?;
+    }
+    Ok(())
+}
+
 /// A look below all these trees, each way.
-fn measure_ways(bench: Bench, trees: &[Vec<u8>]) -> io::Result<()> {
+fn measure_look(bench: Bench, trees: &[Vec<u8>]) -> io::Result<()> {
     match deep(bench.alloc(), DEEPEST)? {
         None => Ok(()),
         Some(path) => {
             let request = Request::Kind(path);
-            for (way, what) in WAYS {
-                measure_chain(bench, &request, *way, what, trees)?;
-            }
-            Ok(())
+            let told = measure_ways(bench, &request, trees);
+            drop(request);
+            told
         }
     }
 }
@@ -271,6 +278,22 @@ fn time_on_a_mount(
     }
 }
 
+/// How long a turn takes from the root, and where each goes on at its place.
+fn time_callers(
+    bench: Bench,
+    mut tree: Tree<MemoryFiles<Outside>>,
+    reads: Vec<Request>,
+) -> io::Result<()> {
+    match time_from_the_root(bench, &mut tree, reads.as_slice()) {
+        Ok(()) => time_on_a_mount(bench, tree, reads),
+        Err(fault) => {
+            drop(reads);
+            drop(tree);
+            Err(fault)
+        }
+    }
+}
+
 /// Callers that wait for files of one directory with so many.
 fn measure_callers(bench: Bench, count: u32) -> io::Result<()> {
     println!(bench.rt; "{CALLERS} callers in a directory of {count} files")?;
@@ -278,10 +301,7 @@ fn measure_callers(bench: Bench, count: u32) -> io::Result<()> {
     let files = MemoryFiles::new(bench.alloc());
     match opened(bench.alloc(), files, count)? {
         None => println!(bench.rt; "  not opened"),
-        Some(mut tree) => {
-            time_from_the_root(bench, &mut tree, reads.as_slice())?;
-            time_on_a_mount(bench, tree, reads)
-        }
+        Some(tree) => time_callers(bench, tree, reads),
     }
 }
 
@@ -292,6 +312,6 @@ pub fn run(bench: Bench, count: u32) -> io::Result<()> {
         "a look below {DEEPEST} directories of {width} entries that come one by one"
     )?;
     let trees = chain(bench.alloc(), width)?;
-    measure_ways(bench, trees.as_slice())?;
+    measure_look(bench, trees.as_slice())?;
     measure_callers(bench, count)
 }
