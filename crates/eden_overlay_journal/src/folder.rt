@@ -31,8 +31,8 @@ const LEAST_CHANGED: usize = 1 << 10;
 /// The length of the body of a directory without entries.
 const EMPTY_LEN: usize = 4;
 
-/// So much room a numbered file takes on the disk at most beside its bytes, be it with a directory's header.
-const BESIDE_BYTES: u64 = 8 << 10;
+/// A disk gives a numbered file its room in blocks of this length.
+const BLOCK_LEN: u64 = 4 << 10;
 
 /// What the record of a file tells.
 #[derive(Clone, Copy)]
@@ -350,16 +350,16 @@ impl<R: Files + Clock + Drop> FolderJournal<R> {
         }
     }
 
-    // How much room the files that it says are there take at most, as numbered files.
+    // How much room the files that it says are there take, as numbered files, with a block for their names.
     fn poured_len(&self) -> u64 {
-        let mut all: u64 = 0;
+        let mut all = BLOCK_LEN;
         for (_, piece) in self.pieces.iter() {
             if let Some(Piece { len, told, .. }) = piece {
                 let len = match told {
                     Told::File => *len,
                     Told::Body { len, .. } => *len,
                 };
-                all = all.saturating_add(len as u64).saturating_add(BESIDE_BYTES);
+                all = all.saturating_add(numbered_len(len));
             }
         }
         all
@@ -395,6 +395,12 @@ impl<R: Files + Clock + Drop> FolderJournal<R> {
             }
         }
     }
+}
+
+// How much room a numbered file takes with so many bytes, and with the header that a directory's has before them.
+fn numbered_len(len: usize) -> u64 {
+    let len = (len as u64).saturating_add(HEADER_LEN as u64);
+    len.div_ceil(BLOCK_LEN).saturating_mul(BLOCK_LEN)
 }
 
 // How many bytes stand behind the fields of such a record at most.
