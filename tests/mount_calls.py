@@ -614,21 +614,21 @@ def listings(top: pathlib.Path) -> Steps:
 
 def names_that_move_on(top: pathlib.Path) -> Steps:
     """A long folder, each name of which moves on while it is read."""
-    count = 1_000
-    for number in range(count):
-        (top / f"{number:04}").touch()
-    told = 0
-    with os.scandir(top) as rows:
-        for row in rows:
-            told += 1
-            if told > 4 * count:
-                break
-            os.rename(row.path, top / f"n{row.name}")
-    yield "its end", told <= 4 * count
-    names = os.listdir(top)
-    yield "all are there", len(names) == count
-    for name in names:
-        (top / name).unlink()
+    for count in (1_000, 1_100):
+        for number in range(count):
+            (top / f"{number:04}").touch()
+        told = 0
+        with os.scandir(top) as rows:
+            for row in rows:
+                told += 1
+                if told > 4 * count:
+                    break
+                os.rename(row.path, top / f"n{row.name}")
+        yield f"the end of {count}", told <= 4 * count
+        names = os.listdir(top)
+        yield f"all of {count} are there", len(names) == count
+        for name in names:
+            (top / name).unlink()
 
 
 def kinds_in_rows(top: pathlib.Path) -> Steps:

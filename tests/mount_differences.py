@@ -92,7 +92,7 @@ class Differences:
 
 REMOVED_FOLDER = "a directory that was removed, or moved over, while it is open or stood in"
 FOUND_FILE = "a file that is removed or replaced after somebody found its name, and before that one opens it"
-LISTED_FOLDER = "a directory of which each name is changed while it is listed"
+LISTED_FOLDER = "a directory of more than 1,000 names, each of which is changed to a later one while it is listed"
 LINKS = "how many names a directory, or a removed file, has (`st_nlink`)"
 FOLDER_SIZE = "the size of a directory (`st_size`, `st_blocks`)"
 MODES = "modes"
@@ -110,7 +110,7 @@ DIFFERENCES = [
     Difference(REMOVED_FOLDER, "removed folder: .*|moved folder: .* that it was moved over", ANYTHING, "ESTALE"),
     Difference(REMOVED_FOLDER, "removed where one stands: (stat|listing)( of what was above)?", ANYTHING, "ESTALE"),
     Difference(FOUND_FILE, "removed before open: (removed|replaced) before it is opened: .*", ANYTHING, "ESTALE"),
-    Difference(LISTED_FOLDER, "names that move on: its end", True, False),
+    Difference(LISTED_FOLDER, "names that move on: the end of 1100", True, False),
     Difference(LINKS, "(removed|replaced) while open: links( of the replaced)?", 0, 1),
     Difference(LINKS, "counted: links of (a folder of two folders|an empty folder)", ANYTHING, 1),
     Difference(FOLDER_SIZE, "counted: a folder has a size", True, False),
