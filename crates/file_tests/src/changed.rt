@@ -1,13 +1,13 @@
 //! A directory in a journal: what changes in it is noted alone, and makes its body again.
 use crate::folders::{damage, folder_of};
 use crate::formats::{NEW_DIRECTORY, told};
-use crate::journals::{InFolder, left, of_length, opened};
+use crate::journals::{InFolder, before_reserve, left, of_length, opened};
 use crate::kinds::{Answer, Call, gives_all};
 use eden_overlay::{Files, FilesFault};
 use eden_overlay_format::Identifier;
 use std::alloc::{AllocError, Global};
+use std::fs;
 use std::path::PathBuf;
-use std::{fs, io};
 
 // The record that file 5 is a directory's, whose body is a count of 1 and `ab`.
 const NOTED: &[u8] = b"\
@@ -163,9 +163,18 @@ const LAST: &[u8] = b"\x00\x00\x00\x00\x00\x00\x00\x1d\
     \x00\x00\x00\x00\x00\x00\x08\x99\x00\x00\x00\x00\x00\x00\x07\xcb\x00\x00\x00\x00\x00\x00\x00\x00\
     \x08\x07\x07\x07\x08";
 
-fn journal_of(rt: &HostRuntime, folder: &PathBuf) -> io::Result<Vec<u8>> {
-    let path = folder.join(rt.alloc(), "journal")?;
-    fs::read(rt, path.as_path())
+// The records of the folder's journal, which have that many bytes; None where it isn't so.
+fn records_of(rt: &HostRuntime, folder: &PathBuf, len: usize) -> Option<Vec<u8>> {
+    let path = folder.join(rt.alloc(), "journal").ok()?;
+    before_reserve(fs::read(rt, path.as_path()).ok()?, len)
+}
+
+// Changes the last of the journal's records, which have that many bytes.
+fn damage_record(rt: &HostRuntime, folder: &PathBuf, len: usize) -> Option<()> {
+    let records = records_of(rt, folder, len)?;
+    let path = folder.join(rt.alloc(), "journal").ok()?;
+    fs::write(rt, path.as_path(), records.as_slice()).ok()?;
+    damage(rt, folder, "journal").ok()
 }
 
 // Whether file 9 becomes a directory's with that body.
@@ -193,9 +202,9 @@ fn what_changes_in_a_directory_is_noted_alone(rt: HostRuntime) {
         }
         assert!(rt; stores(&rt, &mut files, &body));
     }
-    let journal = journal_of(&rt, &folder).expect(&rt, "a journal");
     // The whole body, a count, and three times a byte.
-    assert!(rt; journal.len() == 2048 + 76 + 3 * 77 && journal.ends_with(LAST));
+    let records = records_of(&rt, &folder, 2048 + 76 + 3 * 77).expect(&rt, "so many records");
+    assert!(rt; records.ends_with(LAST));
     let want = told(&rt, rt.alloc(), &NEW_DIRECTORY, &DIGEST, 0, &body);
     assert!(rt; reads(&rt, &mut files, &want));
     drop(files);
@@ -232,9 +241,9 @@ fn a_move_is_noted_in_two_places(rt: HostRuntime) {
     assert!(rt; stores(&rt, &mut files, &body));
     let body = rows(rt.alloc(), true).expect(&rt, "memory");
     assert!(rt; stores(&rt, &mut files, &body));
-    let journal = journal_of(&rt, &folder).expect(&rt, "a journal");
     // The whole body; then a length and twice what stays, and the row that came.
-    assert!(rt; journal.len() == 48 + body.len() + 48 + 8 + 2 * 28 + 8);
+    let len = 48 + body.len() + 48 + 8 + 2 * 28 + 8;
+    assert!(rt; records_of(&rt, &folder, len).is_some());
     let want = told(&rt, rt.alloc(), &NEW_DIRECTORY, &MOVED_DIGEST, 0, &body);
     assert!(rt; reads(&rt, &mut files, &want));
     drop(files);
@@ -253,7 +262,7 @@ fn a_damaged_record_shows_no_other_directory(rt: HostRuntime) {
     let folder = folder_of(&rt, "journal-damaged", &[]).expect(&rt, "a folder");
     let mut files = opened(&rt, &folder).expect(&rt, "files");
     assert!(rt; stores(&rt, &mut files, b"\0\0\0\x01ab"));
-    damage(&rt, &folder, "journal").expect(&rt, "a journal");
+    damage_record(&rt, &folder, 48 + 6).expect(&rt, "a journal");
     assert!(rt; is_told_damaged(&rt, &mut files));
     fs::remove_dir_all(&rt, folder.as_path()).expect(&rt, "a folder");
 }

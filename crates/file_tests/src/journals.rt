@@ -111,6 +111,20 @@ pub fn left(rt: &HostRuntime, name: &str, journal: &[u8]) -> io::Result<PathBuf>
     Ok(folder)
 }
 
+// The least that stands behind the records of a journal that is written, zeros.
+const RESERVE: usize = 64 << 10;
+
+// The records of a journal, which have that many bytes, with the reserve behind them; None where it isn't so.
+pub fn before_reserve(journal: Vec<u8>, len: usize) -> Option<Vec<u8>> {
+    let mut journal = journal;
+    let (_, reserve) = journal.split_at_checked(len)?;
+    if reserve.len() < RESERVE || reserve.iter().any(|byte| *byte != 0) {
+        return None;
+    }
+    journal.truncate(len);
+    Some(journal)
+}
+
 // The journal that `CHANGES` leaves, by which no numbered file has changed yet; None where it isn't so.
 fn changes_left(rt: &HostRuntime) -> Option<Vec<u8>> {
     let folder = folder_of(rt, "journal-changes", &[("3", Made::File(b"3"))]).ok()?;
@@ -121,7 +135,7 @@ fn changes_left(rt: &HostRuntime) -> Option<Vec<u8>> {
     let journal = fs::read(rt, path.as_path()).ok()?;
     fs::remove_dir_all(rt, folder.as_path()).ok()?;
     if is_done && is_noted {
-        Some(journal)
+        before_reserve(journal, 372)
     } else {
         None
     }
@@ -149,6 +163,41 @@ fn a_cut_journal_is_taken_in_up_to_the_cut(rt: HostRuntime) {
     for len in 0..=journal.len() {
         assert!(rt; is_taken_as(&rt, &journal[..len], whole_in(len)) == Some(true));
     }
+}
+
+// Zeros behind the records, be it as many as a record's fields have, end them.
+#[test]
+fn a_journal_with_a_reserve_is_taken_in(rt: HostRuntime) {
+    let mut journal = changes_left(&rt).expect(&rt, "a journal");
+    for len in [373, 372 + 48, 372 + 5000] {
+        journal.resize(len, 0).expect(&rt, "memory");
+        assert!(rt; is_taken_as(&rt, &journal, 5) == Some(true));
+    }
+}
+
+// As after a kill, by a run that goes on in it: the record stands behind the others, and its reserve behind it.
+#[test]
+fn a_journal_with_a_reserve_goes_on(rt: HostRuntime) {
+    let alloc = rt.alloc();
+    let mut journal = changes_left(&rt).expect(&rt, "a journal");
+    journal.resize(5000, 0).expect(&rt, "memory");
+    let folder = left(&rt, "journal-goes-on", &journal).expect(&rt, "a journal");
+    let mut journal = FolderJournal::open(rt, alloc, &folder).expect(&rt, "a journal");
+    assert!(rt; Journal::<Outside>::store(&mut journal, alloc, 9, b"9") == Ok(()));
+    drop(journal);
+    let path = folder.join(alloc, "journal").expect(&rt, "memory");
+    let written = fs::read(&rt, path.as_path()).expect(&rt, "a journal");
+    assert!(rt; before_reserve(written, 372 + 49).is_some());
+    let mut files = opened(&rt, &folder).expect(&rt, "files");
+    assert!(rt; gives_all(&mut files, alloc, &after(5)));
+    assert!(rt;
+        gives_all(
+            &mut files,
+            alloc,
+            &[(Call::Read(9), Answer::Bytes(Some(b"9")))]
+        )
+    );
+    fs::remove_dir_all(&rt, folder.as_path()).expect(&rt, "a folder");
 }
 
 #[test]
