@@ -60,6 +60,8 @@ GIT_FOLDERS = ("branches", "common", "hooks", "info", "logs", "modules", "object
                "rr-cache", "worktrees")
 # A disk that has no more bytes is full: a directory that is stored may be longer.
 FULL = 1 << 16
+# What mountd ends with where a file that was open couldn't be stored; the overlay is closed all the same.
+UNSTORED = "mountd: store "
 ENDED_EARLY = "it was ended before it was mounted"
 # What `mountd repair` is for.
 REPAIRED = ("Damaged", "Dangling", "Twice")
@@ -330,7 +332,11 @@ def ends_told(overlay: OverlayFolder) -> Iterator[None]:
     try:
         yield
     except Unclosed as problem:
-        raise Refusal(f"the overlay {overlay.path} wasn't closed well: {problem}{said_of_disk(overlay.path)}") from None
+        why = f"{problem}{said_of_disk(overlay.path)}"
+        if str(problem).startswith(UNSTORED):
+            line = "what a program had written and neither closed nor synchronised couldn't be stored, and is lost"
+            raise Refusal(f"{line}; the overlay {overlay.path} is closed: {why}") from None
+        raise Refusal(f"the overlay {overlay.path} wasn't closed well: {why}") from None
     except Unopened as problem:
         line = f"mountd wasn't opened again, and nothing is mounted any more: {problem}"
         raise Refusal(f"{line}{said_of_disk(overlay.path)}") from None
