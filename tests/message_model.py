@@ -477,7 +477,7 @@ class FolderModel:
         told = self.number_told(0)
         handle = told if told not in self.pages else max(self.pages) + 1
         self.pages[handle] = Page(0, None, {}, True)
-        return OPENED.pack(handle, 10, 0)
+        return OPENED.pack(handle, 0, 0)
 
     def after(self, handle: int, offset: int) -> bytes | None:
         """The name after which an open directory is read on."""

@@ -1,6 +1,8 @@
 """What whoever looks sees of a folder that `mountd fuse` shows while bytes wait to be stored, and while names of a
 directory that is read move on: by messages that a socket hands over, and by calls of the system."""
 
+import ctypes
+import errno
 import mmap
 import os
 import pathlib
@@ -140,6 +142,36 @@ def check_moved_on(folder: pathlib.Path, repository: pathlib.Path) -> None:
         check("moved on: each name once", sorted(renamed), names)
         check("moved on: what is there", sorted(os.listdir(directory)), [f"z{name}" for name in names])
         check("moved on: the end, with nothing said", (mount.end("SIGTERM"), mount.said()), (0, []))
+
+
+# Of `getdents64`, on x86-64; the C library keeps what it read.
+GETDENTS64 = 217
+LIBC = ctypes.CDLL(None, use_errno=True)
+
+
+def rows_of(descriptor: int, most: int) -> int | str:
+    """How many bytes of rows the kernel gives next, or the name of its error."""
+    got = int(LIBC.syscall(GETDENTS64, descriptor, ctypes.create_string_buffer(most), most))
+    return errno.errorcode[ctypes.get_errno()] if got < 0 else got
+
+
+def check_two_readers(folder: pathlib.Path, repository: pathlib.Path) -> None:
+    """One reads a directory on that another begins anew, after it has changed."""
+    with MountGit(repository, "HEAD", folder / "mounted") as mount:
+        directory = mount.folder / "directory"
+        directory.mkdir()
+        for number in range(100):
+            (directory / f"{number:03}").touch()
+        check("two readers: a listing, and again", [len(os.listdir(directory)) for _ in range(2)], [100, 100])
+        with opened(directory, os.O_RDONLY) as one:
+            told = [rows_of(one, 512)]
+            (directory / "new").touch()
+            with opened(directory, os.O_RDONLY) as other:
+                check("two readers: the other's beginning", isinstance(rows_of(other, 64), int), True)
+                while told[-1] and isinstance(told[-1], int):
+                    told.append(rows_of(one, 512))
+        check("two readers: how the first one's listing ended", told[-1], 0)
+        check("two readers: the end, with nothing said", (mount.end("SIGTERM"), mount.said()), (0, []))
 
 
 LARGE = 8_000_000

@@ -316,6 +316,26 @@ def check_full_journal(folder: pathlib.Path, repository: pathlib.Path) -> None:
             check("full journal: the second end", (mount.end("SIGTERM"), mount.said()), (0, []))
 
 
+def check_killed_on_full_disk(folder: pathlib.Path, repository: pathlib.Path) -> None:
+    """After a kill on a full disk what was changed last is there, though nobody made room."""
+    with small_disk(folder / "small", DISK) as disk:
+        if disk is None:
+            skip("a kill on a full disk", "no small disk may be mounted")
+            return
+        with MountGit(repository, "HEAD", folder / "mounted", "--overlay", disk / "overlay") as mount:
+            small = [mount.folder / f"small {number}" for number in range(5)]
+            for path in small:
+                path.write_bytes(b"small")
+            with filled_up(disk / "the rest"):
+                check("killed on a full disk: a removal", tried(small[0].unlink), None)
+                os.kill(mountd_of(mount)[-1], signal.SIGKILL)
+                check("killed on a full disk: the end", mount.status(), 1)
+                with MountGit(repository, "HEAD", folder / "mounted", "--overlay", disk / "overlay") as again:
+                    there = [path.read_bytes() if path.exists() else None for path in small]
+                    check("killed on a full disk: what is there", there, [None] + [b"small"] * 4)
+                    check("killed on a full disk: the second end", (again.end("SIGTERM"), again.said()), (0, []))
+
+
 def check_removals(folder: pathlib.Path, stored: list[pathlib.Path], small: list[pathlib.Path]) -> None:
     """What goes in a mount whose overlay's disk has no room at all: a rename, and each removal. What makes a name is
     refused, once the journal has no more than its reserve."""

@@ -54,9 +54,9 @@ attributes_of m inode at kind size = record { attr_valid = m.keep; attr = attr_o
 abbrev pub open_file : ℕ → OpenOut
 open_file flags = record { fh = 0; open_flags = if bit_and flags 3 == 0 then 34 else 2 }
 
--- an open directory, whose rows the kernel may keep (FOPEN_CACHE_DIR, 8) from one opening to the next
+-- an open directory, whose rows the kernel doesn't keep: it would go on behind them by a handle that listed none
 abbrev pub open_directory : ℕ → OpenOut
-open_directory handle = record { fh = handle; open_flags = 10 }
+open_directory handle = record { fh = handle; open_flags = 0 }
 
 -- of what the kernel offers: reads side by side (1), writes of over a page (2 ^ 5), look-ups side by side (2 ^ 18), requests of
 -- as many pages as are told (2 ^ 22), and targets of links kept (2 ^ 23)

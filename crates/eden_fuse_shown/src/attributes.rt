@@ -116,7 +116,7 @@ pub(crate) fn open_directory(handle: u64) -> OpenOut
 {
     OpenOut {
         fh: handle,
-        open_flags: 10,
+        open_flags: 0,
     }
 }
 

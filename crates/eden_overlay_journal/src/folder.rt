@@ -563,9 +563,9 @@ impl<R: Files + Clock + Drop> Journal<Outside> for FolderJournal<R> {
     }
 
     /// Whoever asks is about to store these files. The reserve is given to the disk where they find room in it: with
-    /// that they are stored on a full disk too.
+    /// that they are stored on a full disk too. So is what another run left, which nothing is written over any more.
     fn numbers(&mut self, alloc: Global) -> Result<Vec<u64>, FilesFault> {
-        if self.fits_in_reserve() {
+        if self.log.is_left() || self.fits_in_reserve() {
             self.log.give_reserve();
         }
         let mut numbers = Vec::with_capacity(alloc, self.pieces.len())?;

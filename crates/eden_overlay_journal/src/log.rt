@@ -194,11 +194,17 @@ impl<R: Files + Drop> Log<R> {
         self.file.is_some() && self.reserve() < RESERVE
     }
 
-    /// Gives the reserve to the disk. Where that fails it stays.
+    /// Whether what lies behind the records was left by another run, or by a write that failed.
+    pub(crate) fn is_left(&self) -> bool {
+        self.is_torn
+    }
+
+    /// Gives the reserve to the disk, and what else lies behind the records. Where that fails it stays.
     pub(crate) fn give_reserve(&mut self) {
         if let Some(file) = &self.file {
             if file.set_len(self.end).is_ok() {
                 self.allocated = self.end;
+                self.is_torn = false;
             }
         }
     }
