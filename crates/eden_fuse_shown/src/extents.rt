@@ -283,6 +283,7 @@ fn laid_over(
     }
     let (at, room) = (at as usize, (count - at) as usize);
     if bytes.len() >= room {
+        change_laws();
         let (bytes, _) = bytes.split_at(room);
         return filled(part, at, bytes);
     }
