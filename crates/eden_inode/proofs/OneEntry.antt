@@ -1,5 +1,5 @@
 -- The one entry of a name, as it is stored.
-use Rattle.std.proofs.Common.{◌≡◌, true, false, cond, List, [], ◌∷◌, Option, IfSome, Some, None, refl, sym, ap, ◌∙◌, subst}
+use Rattle.std.proofs.Common.{◌≡◌, ℕ, true, false, cond, List, [], ◌∷◌, Option, IfSome, Some, None, refl, sym, ap, ◌∙◌, subst}
 use Rattle.std.specs.Str.{bytes_eq}
 use Rattle.std.specs.List.{filter_map, cons_option, AllByRecursion}
 use Rattle.std.specs.Option.{option_map, option_and_then}
@@ -8,13 +8,19 @@ use Rattle.eden_model.specs.declared.kind.Origin.{Origin}
 use Rattle.eden_model.specs.declared.kind.Origin.TheVariants as origin
 use Rattle.eden_model.specs.Trees.{Name}
 use Rattle.eden_model.specs.Named.{AreRising, named}
+use Rattle.eden_overlay_format.specs.Changing.{entries_with}
+use Rattle.eden_overlay_format.specs.Directory.{IsStorable, AreStorable}
 use Rattle.eden_overlay_format.specs.declared.stored_entry.StoredEntry.{StoredEntry}
+use Rattle.eden_overlay.specs.Changing.{MayChange, IsChanged}
+use Rattle.eden_overlay.specs.Files.{Stored}
+use Rattle.eden_overlay.specs.Held.{with_entries}
+use Rattle.eden_overlay.specs.Soundness.{AreSound}
 use Rattle.eden_tree.specs.Directory.{Row, Directory}
 use Rattle.eden_tree.specs.Rows.{find_row}
 use Rattle.eden_tree.proofs.CallerLemmas.{same-≡}
 use Rattle.eden_inode.specs.declared.listing.Listed.{Listed}
 use Rattle.eden_inode.specs.declared.listing.Listed.TheVariants.{Whole, Without, Owned}
-use Rattle.eden_inode.specs.Listed.{listed_as, origin_as}
+use Rattle.eden_inode.specs.Listed.{DiffersAt, listed_as, origin_as}
 use Rattle.eden_inode.proofs.Entries.{entry_as, all_stored}
 
 abbrev entry_named : Name → List StoredEntry → Option StoredEntry
@@ -77,3 +83,23 @@ one_of P n (x ∷ es) e all h =
       | true ↦ λ k. subst P (same_Some x e k) all.0
       | false ↦ λ k. one_of P n es e all.1 k
     ] h
+
+pub facts_storable : {T : Type 0} (view : T → StoredEntry) (o : Option T) (n : Name) (es : List StoredEntry) → AllByRecursion IsStorable es → option_map view o ≡ entry_named n es
+    → IfSome o (λ f. IsStorable (view f))
+facts_storable view None n es all h = tt
+facts_storable view (Some f) n es all h = one_of IsStorable n es (view f) all (sym h)
+
+-- ---- a file that differs in it alone
+
+module _ (n : Name) (F : Stored) (k : ℕ) (es : List StoredEntry) (o : Option StoredEntry) (facts : o ≡ entry_named n es) (differs : DiffersAt n F k es) where
+  changed_is : entries_with n o differs.0 ≡ es
+  changed_is = ap (λ a. entries_with n a differs.0) facts ∙ differs.2
+
+  pub may_change : AreStorable es → AreSound (with_entries F k es) → MayChange F k n o
+  may_change are sound old holds =
+      let same : old ≡ differs.0 = same_Some old differs.0 (sym holds ∙ differs.1) in
+      let is : entries_with n o old ≡ es = ap (entries_with n o) same ∙ changed_is in
+      record { storable = subst AreStorable (sym is) are; sound = subst (λ (l : List StoredEntry). AreSound (with_entries F k l)) (sym is) sound }
+
+  pub is_changed : (G : Stored) → IsChanged F k n o G → G ≡ with_entries F k es
+  is_changed G changed = changed differs.0 differs.1 ∙ ap (with_entries F k) changed_is
