@@ -25,6 +25,7 @@ mod files;
 mod folder;
 mod gate;
 mod laws;
+mod listed;
 mod mark;
 mod memory;
 mod names;
