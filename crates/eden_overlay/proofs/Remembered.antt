@@ -59,12 +59,12 @@ listed_held F n es (Some k) held found =
 -- a body is one that is kept, or not
 kept_or_not : (long : ℕ) → IsKeptLong long ⊎ ¬ IsKeptLong long
 kept_or_not long =
-    elim (nat_lt long (2 ^ 10)) as (λ b. nat_lt long (2 ^ 10) ≡ b → IsKeptLong long ⊎ ¬ IsKeptLong long) [
-      | true ↦ λ short. inr (λ is. (let less = ltb-true long (2 ^ 10) short in let least = is.0 in omega (arith, less, least)))
+    elim (nat_lt long (2 ^ 8)) as (λ b. nat_lt long (2 ^ 8) ≡ b → IsKeptLong long ⊎ ¬ IsKeptLong long) [
+      | true ↦ λ short. inr (λ is. (let less = ltb-true long (2 ^ 8) short in let least = is.0 in omega (arith, less, least)))
       | false ↦ λ fits.
           elim (nat_lt (2 ^ 22) long) as (λ b. nat_lt (2 ^ 22) long ≡ b → IsKeptLong long ⊎ ¬ IsKeptLong long) [
             | true ↦ λ beyond. inr (λ is. (let more = ltb-true (2 ^ 22) long beyond in let most = is.1 in omega (arith, more, most)))
-            | false ↦ λ within. inl (ltb-false long (2 ^ 10) fits, ltb-false (2 ^ 22) long within)
+            | false ↦ λ within. inl (ltb-false long (2 ^ 8) fits, ltb-false (2 ^ 22) long within)
           ] refl
     ] refl
 

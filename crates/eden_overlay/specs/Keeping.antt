@@ -94,6 +94,6 @@ abbrev pub listed_but : ℕ → Option KeptBody → Option KeptBody
 listed_but number None = None
 listed_but number (Some k) = if k.number == number then None else Some k
 
--- a body of so many bytes is kept: from 1 KiB to 4 MiB
+-- a body of so many bytes is kept: from 256 bytes to 4 MiB
 abbrev pub IsKeptLong : ℕ → Type 0
-IsKeptLong long = (2 ^ 10 ≤ long) × (long ≤ 2 ^ 22)
+IsKeptLong long = (2 ^ 8 ≤ long) × (long ≤ 2 ^ 22)

@@ -11,8 +11,8 @@ use eden_model::Name;
 use eden_overlay_format::{DirectoryBody, RowFacts};
 use std::alloc::{AllocError, Global};
 
-/// A body of fewer bytes, 1 KiB, isn't kept: its entries are soon written anew.
-const BODY_LEAST: usize = 1 << 10;
+/// A body of fewer bytes isn't kept: its entries are soon written anew.
+const BODY_LEAST: usize = 1 << 8;
 
 /// A body of more bytes, 4 MiB, isn't kept, nor is more room: so a large directory doesn't hold memory for good.
 const BODY_MOST: usize = 4 << 20;

@@ -62,7 +62,7 @@ const LARGE: usize = 1 << 20;
 /// that its file holds a content is known then, so that its parts are read there. Under an honest outside each content
 /// is what its file holds.
 ///
-/// The body of the directory that was stored last stays in memory too, if it has from 1 KiB to 4 MiB, so that
+/// The body of the directory that was stored last stays in memory too, if it has from 256 bytes to 4 MiB, so that
 /// `change_entry` needn't write its other entries anew. A shorter one isn't kept, and another directory's stays then.
 /// It goes once something else is stored as its file. Under an honest outside its entries are what its file holds.
 ///
