@@ -61,7 +61,8 @@ none_of l n z (Some w) h = left_out l n z w h
 one_entry : (l : Listed) (n : Name) (rows : List (Name × Row)) → entry_named n (filter_map (entry_as l) rows) ≡ option_and_then (λ w. entry_as l (n, w)) (find_row n rows)
 one_entry l n [] = refl
 one_entry l n (e ∷ es) =
-    elim (bytes_eq n e.0) as (λ b. bytes_eq n e.0 ≡ b → entry_named n (cons_option (entry_as l e) (filter_map (entry_as l) es)) ≡ option_and_then (λ w. entry_as l (n, w)) (cond b (Some e.1) (find_row n es))) [
+    elim (bytes_eq n e.0) as (λ b. bytes_eq n e.0 ≡ b
+    → entry_named n (cons_option (entry_as l e) (filter_map (entry_as l) es)) ≡ option_and_then (λ w. entry_as l (n, w)) (cond b (Some e.1) (find_row n es))) [
       | true ↦ λ s. (let same : entry_as l e ≡ entry_as l (n, e.1) = ap (λ m. entry_as l (m, e.1)) (sym (same-≡ n e.0 s)) in
           found_first n (entry_as l e) (filter_map (entry_as l) es) (has_name n true l e s) (λ none. one_entry l n es ∙ none_of l n e.1 (find_row n es) (sym same ∙ none)) ∙ same)
       | false ↦ λ s. passed_over n (entry_as l e) (filter_map (entry_as l) es) (has_name n false l e s) ∙ one_entry l n es

@@ -46,7 +46,14 @@ pub(crate) fn take_out<A: Allocator, W: World, F: Files<W>>(
     ensures counted { Counted (result ≡ Err files.Device) (F.failures overlay.old) (F.failures overlay.new) }
 {
     let differing = differing(root, path, name);
-    store_chain(alloc, root, overlay, path, Some(Listed::Without(name)), differing)?;
+    store_chain(
+        alloc,
+        root,
+        overlay,
+        path,
+        Some(Listed::Without(name)),
+        differing,
+    )?;
     remove_at(root, path, name);
     mark_own(root, path);
     Ok(())

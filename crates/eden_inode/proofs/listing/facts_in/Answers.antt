@@ -1,4 +1,4 @@
-use Rattle.std.proofs.Common.{◌≡◌, Some, None, sym, ap, ◌∙◌}
+use Rattle.std.proofs.Common.{◌≡◌, Some, None, ap, ◌∙◌}
 use Rattle.eden_tree.specs.Directory.{Row}
 use Rattle.eden_inode.specs.Listed.{origin_as}
 use Rattle.eden_inode.proofs.OneEntry.{with_origin, none_stored, stored_so}
