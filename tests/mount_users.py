@@ -332,16 +332,16 @@ def check_cut_on_full_disk(folder: pathlib.Path, repository: pathlib.Path) -> No
                 path.write_bytes(stored)
             with filled_up(disk / "the rest"):
                 filled(mount.folder, data[:SMALL])
-                check("emptied on a full disk: another file's cut by a byte",
+                check("emptied: another file's cut by a byte",
                       tried(lambda: os.truncate(large, PIECE - 1)), "ENOSPC")
-                check("emptied on a full disk: the file", (tried(large.write_bytes, b""), large.read_bytes()), (0, b""))
-                check("emptied on a full disk: with room", tried((mount.folder / "new").write_bytes, data[:NOTED]), NOTED)
-                check("emptied on a full disk: the end", (mount.end("SIGTERM"), mount.said()), (0, []))
+                check("emptied: the file", (tried(large.write_bytes, b""), large.read_bytes()), (0, b""))
+                check("emptied: with room", tried((mount.folder / "new").write_bytes, data[:NOTED]), NOTED)
+                check("emptied: the end", (mount.end("SIGTERM"), mount.said()), (0, []))
         with MountGit(repository, "HEAD", folder / "mounted", "--overlay", disk / "overlay") as mount:
             there = {path.read_bytes() for path in small}
-            check("emptied on a full disk: what is there", (there, large.read_bytes()), ({data[:SMALL]}, b""))
-            check("emptied on a full disk: what came after it", (mount.folder / "new").read_bytes() == data[:NOTED], True)
-            check("emptied on a full disk: the second end", (mount.end("SIGTERM"), mount.said()), (0, []))
+            check("emptied: what is there", (there, large.read_bytes()), ({data[:SMALL]}, b""))
+            check("emptied: what came after it", (mount.folder / "new").read_bytes() == data[:NOTED], True)
+            check("emptied: the second end", (mount.end("SIGTERM"), mount.said()), (0, []))
 
 
 def check_killed_on_full_disk(folder: pathlib.Path, repository: pathlib.Path) -> None:
