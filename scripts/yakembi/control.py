@@ -173,7 +173,11 @@ def serving(folder: str, answers: Answers, is_to_stay: bool = False,
     has the turn lets nobody be answered meanwhile."""
     server = Server(os.path.join(made_place(is_to_stay), name_for(folder)), answers, turn or threading.Lock())
     thread = threading.Thread(target=server.serve_forever, kwargs={"poll_interval": 0.05}, daemon=True)
-    thread.start()
+    try:
+        thread.start()
+    except RuntimeError as problem:
+        server.server_close()
+        raise Refusal(f"no thread can be started: {problem}") from None
     try:
         yield
     finally:

@@ -373,7 +373,9 @@ def reachable(showing: kernel.Showing, answers: Answers, is_to_stay: bool) -> It
                 problem = why_not()
                 if problem is None:
                     tell(f"what {showing.folder} shows can be told and committed now")
+                    break
                 if not is_taken(problem):
+                    tell(f"what {showing.folder} shows can't be told or committed: {control.said_of(problem)}")
                     break
 
         end = time.monotonic() + SECONDS_LOCKED

@@ -374,12 +374,12 @@ impl<R: Files + Clock + Drop> FolderJournal<R> {
     }
 
     // How much room the numbered file takes.
-    fn taken(&self, number: u64) -> u64 {
+    fn numbered_room(&self, number: u64) -> u64 {
         self.file_len(number).map_or(0, blocks_of)
     }
 
     // How much room the files that it says are there take, as numbered files, with a block for their names.
-    fn poured_len(&self) -> u64 {
+    fn all_poured_len(&self) -> u64 {
         let mut all = BLOCK_LEN;
         for (_, piece) in self.pieces.iter() {
             if let Some(piece) = piece {
@@ -392,7 +392,7 @@ impl<R: Files + Clock + Drop> FolderJournal<R> {
     // Whether all that it says finds room in the reserve.
     fn fits_in_reserve(&self) -> bool {
         let reserve = self.log.reserve();
-        reserve > 0 && self.poured_len() <= reserve
+        reserve > 0 && self.all_poured_len() <= reserve
     }
 
     // Whether it finds room there on a full disk if its files are stored in that order: each that is stored or removed
@@ -409,7 +409,7 @@ impl<R: Files + Clock + Drop> FolderJournal<R> {
                     None => return false,
                 }
             }
-            free = free.saturating_add(self.taken(*number));
+            free = free.saturating_add(self.numbered_room(*number));
         }
         true
     }
@@ -420,7 +420,7 @@ impl<R: Files + Clock + Drop> FolderJournal<R> {
         match piece {
             None => Turn::Removed,
             Some(piece) => {
-                if self.log.is_short() && piece.poured_len() < self.taken(number) {
+                if self.log.is_short() && piece.poured_len() < self.numbered_room(number) {
                     Turn::Shorter
                 } else {
                     Turn::Other
@@ -429,27 +429,39 @@ impl<R: Files + Clock + Drop> FolderJournal<R> {
         }
     }
 
-    // All numbers in that order.
+    // All numbers in that order: each stands in it once, whatever a look at the disk answers.
     fn in_turn(&self, alloc: Global) -> Result<Vec<u64>, AllocError> {
         let mut numbers = Vec::with_capacity(alloc, self.pieces.len())?;
-        for turn in [Turn::Removed, Turn::Shorter, Turn::Other] {
-            for (number, piece) in self.pieces.iter() {
-                if self.turn_of(*number, *piece) == turn {
-                    numbers.push(*number)?;
-                }
+        let (mut shorter, mut others) = (Vec::new(alloc), Vec::new(alloc));
+        for (number, piece) in self.pieces.iter() {
+            match self.turn_of(*number, *piece) {
+                Turn::Removed => numbers.push(*number)?,
+                Turn::Shorter => shorter.push(*number)?,
+                Turn::Other => others.push(*number)?,
             }
         }
+        numbers.extend_from_slice(&shorter)?;
+        numbers.extend_from_slice(&others)?;
         Ok(numbers)
     }
 
-    // Notes the record in the room, which tells that of a file. On a full disk it finds its room in the reserve, as a
-    // removal does, if it is short and its numbered file takes more.
+    // How much room the file takes as it was said last, or else its numbered file.
+    fn room_of(&self, number: u64) -> u64 {
+        match self.pieces.get(&number) {
+            Some(Some(piece)) => piece.poured_len(),
+            Some(None) => 0,
+            None => self.numbered_room(number),
+        }
+    }
+
+    // Notes the record in the room, which tells that of a file. On a full disk a record of less than a block finds its
+    // room in the reserve, as a removal's does, if the file takes more as it is.
     fn put_file_record(&mut self, number: u64, when: u64) -> Result<(), FilesFault> {
         match self.put_record(number, when, Told::File, Room::Disk) {
             Ok(()) => Ok(()),
             Err(fault) => {
                 let len = self.room.len() as u64;
-                if len <= BLOCK_LEN && blocks_of(len) < self.taken(number) {
+                if len <= BLOCK_LEN && blocks_of(len) < self.room_of(number) {
                     self.put_record(number, when, Told::File, Room::Reserve)
                 } else {
                     Err(fault)
@@ -648,8 +660,9 @@ impl<R: Files + Clock + Drop> Journal<Outside> for FolderJournal<R> {
         }
     }
 
-    /// Whoever asks is about to store these files. The reserve is given to the disk where they find room in it: with
-    /// that they are stored on a full disk too. So is what another run left, which nothing is written over any more.
+    /// Whoever asks is about to store these files. The reserve is given to the disk where they find room in it, all
+    /// together or one after another: with that they are stored on a full disk too. So is what another run left, which
+    /// nothing is written over any more.
     fn numbers(&mut self, alloc: Global) -> Result<Vec<u64>, FilesFault> {
         let numbers = self.in_turn(alloc)?;
         if self.log.is_left() || self.fits_in_reserve() || self.fits_in_turn(&numbers) {

@@ -64,8 +64,8 @@ store_chain-requires-clause-differs g c honest =
     let F = g.F.Files.stored c.args.overlay.now in
     let m = c.requires.held.may in
     let is = put_is p n c.args.entry c.in-Ok.was.entry c.in-Ok.was.unsaved x c.put_at.new.root m.row m.directory m.at m.holds c.in-Ok.ensures.ok in
-    subst (λ (a : Row). IfSome c.differing-differing.result (λ t. AtDirectory p a (λ y d. DiffersAt t.now F y.number (listing_of d)))) (sym is)
-    (put_told g.W.World.honest g.W.World.repository F x p n (Some c.args.entry) c.requires.held honest (λ t. t.now) c.differing-differing.result c.differing-differing.ensures)
+    subst (λ (a : Row). IfSome c.differing-changed.result (λ t. AtDirectory p a (λ y d. DiffersAt t.now F y.number (listing_of d)))) (sym is)
+    (put_told g.W.World.honest g.W.World.repository F x p n (Some c.args.entry) c.requires.held honest (λ t. t.now) c.differing-changed.result c.differing-changed.ensures)
 
 pub returns-in-Ok-store_chain-clause-ok : goal.returns-in-Ok-store_chain-clause-ok
 returns-in-Ok-store_chain-clause-ok g c y d at h =

@@ -22,7 +22,7 @@ store_chain-requires-clause-sound g c honest =
 pub store_chain-requires-clause-differs : goal.store_chain-requires-clause-differs
 store_chain-requires-clause-differs g c honest =
     drop_told g.W.World.honest g.W.World.repository (g.F.Files.stored c.args.overlay.now) c.args.root.now c.args.path.now c.args.name.now None c.requires.held honest
-    (λ m. m.now) c.differing-differing.result c.differing-differing.ensures
+    (λ m. m.now) c.differing-changed.result c.differing-changed.ensures
 
 pub returns-in_err-store_chain-clause-strays : goal.returns-in_err-store_chain-clause-strays
 returns-in_err-store_chain-clause-strays g c honest =
