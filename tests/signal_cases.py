@@ -44,13 +44,26 @@ tell("lost")
 with ending.calls(lambda: tell("ends")):
     tell("mounts")
 """
-# It shows something until its input ends, and goes then, which takes a while.
+# It shows something until its input ends, and goes then, which takes a while. At each byte it tells that it goes on.
 SHOWS = BEGIN + """
 with ending.calls(lambda: tell("ends")):
     tell("begun")
-    sys.stdin.read()
+    while os.read(0, 1):
+        tell("goes on")
 tell("over")
 time.sleep(0.5)
+"""
+# While it ends it is told to, once more.
+ENDS_AGAIN = BEGIN + """
+def end():
+    tell("ends")
+    os.kill(os.getpid(), signal.SIGTERM)
+    tell("ended")
+with ending.calls(end):
+    tell("begun")
+    while os.read(0, 1):
+        tell("goes on")
+tell("over")
 """
 
 
@@ -77,6 +90,13 @@ class Signals(cases.Case):
     def says(self, run: subprocess.Popen[str], *lines: str) -> None:
         assert run.stdout is not None
         self.assertEqual([run.stdout.readline() for _ in lines], [f"{line}\n" for line in lines])
+
+    def goes_on(self, run: subprocess.Popen[str]) -> None:
+        """No signal is under way any more, so that the next one isn't one that comes meanwhile."""
+        assert run.stdin is not None
+        run.stdin.write(".")
+        run.stdin.flush()
+        self.says(run, "goes on")
 
     def ends(self, run: subprocess.Popen[str], status: int, *lines: str) -> None:
         assert run.stdin is not None and run.stdout is not None
@@ -106,6 +126,7 @@ class Signals(cases.Case):
             for number in (*ending.SIGNALS, *ending.SIGNALS):
                 run.send_signal(number)
                 self.says(run, "ends")
+                self.goes_on(run)
             assert run.stdin is not None
             run.stdin.close()
             self.says(run, "over")
@@ -115,6 +136,15 @@ class Signals(cases.Case):
                 with contextlib.suppress(subprocess.TimeoutExpired):
                     run.wait(0.01)
             self.assertEqual(run.returncode, 0)
+
+    def test_meanwhile(self) -> None:
+        """One that comes while another is heeded changes nothing, however many come; the next one does."""
+        with self.run_of(ENDS_AGAIN) as run:
+            for number in ending.SIGNALS:
+                run.send_signal(number)
+                self.says(run, "ends", "ended")
+                self.goes_on(run)
+            self.ends(run, 0, "over")
 
     def test_ignored(self) -> None:
         """Those that whoever started it ignores do nothing, as with `nohup`, and for a shell's background; but SIGTERM

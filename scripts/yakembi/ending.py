@@ -36,9 +36,21 @@ def ignore() -> None:
 
 @contextlib.contextmanager
 def calls(end: Callable[[], object]) -> Iterator[None]:
-    """In the block signals call `end`, each time, and behind it they do nothing."""
+    """In the block signals call `end`, each time that it isn't under way, and behind it they do nothing."""
+    is_under_way = False
+
+    def call(*_: object) -> None:
+        nonlocal is_under_way
+        # Without an end of them, calls in the midst of each other would end the program themselves.
+        if not is_under_way:
+            is_under_way = True
+            try:
+                end()
+            finally:
+                is_under_way = False
+
     for number in filter(is_heeded, SIGNALS):
-        signal.signal(number, lambda *_: end())
+        signal.signal(number, call)
     try:
         if came:
             sys.exit(1)

@@ -419,7 +419,10 @@ class Showing:
             raise Unclosed(self.fault)
 
     def end(self) -> None:
-        """Unmounts the folder, be it in use, upon which mountd closes the overlay and ends."""
+        """Unmounts the folder, be it in use, upon which mountd closes the overlay and ends. Once all has ended nothing
+        is done, so that signals which come without a pause don't keep this program from going."""
+        if self.done.is_set():
+            return
         self.is_ended = True
         if is_own(self.place):
             unmount_unused(self.folder)

@@ -73,7 +73,7 @@ each_marked : (name : _) (rows : List (Name × Row)) → filter_map (entry_as (O
 each_marked name [] = refl
 each_marked name (e ∷ es) = ap (λ l. marked_entry name.now e ∷ l) (each_marked name es)
 
-all_stored : (l : Listed) (d : Directory) → AreRising (λ r. r.0) d.rows → filter_map (entry_as l) d.rows ≡ listed_as l d
+pub all_stored : (l : Listed) (d : Directory) → AreRising (λ r. r.0) d.rows → filter_map (entry_as l) d.rows ≡ listed_as l d
 all_stored Whole d rising = each_stored d.rows
 all_stored (Without name) d rising = others_stored name d.rows ∙ ap (map stored_entry) (without_drops name.now d.rows rising)
 all_stored (Owned name) d rising = each_marked name d.rows

@@ -11,4 +11,5 @@ pub mod Loads
 pub mod Saves
 pub mod Starts
 mod Entries
+pub mod OneEntry
 pub mod Compared

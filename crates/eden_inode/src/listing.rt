@@ -1,17 +1,19 @@
 //! Loaded directories as stored ones.
 
 ghost use Rattle.std.specs.Prelude.{◌≡◌, Err, IfOk, OnOk, OnErr};
+ghost use Rattle.std.specs.Option.{option_map};
 ghost use Rattle.eden_model.specs.Failures.{Counted};
-ghost use Rattle.eden_model.specs.Named.{AreRising};
+ghost use Rattle.eden_model.specs.Named.{AreRising, named};
+ghost use Rattle.eden_overlay_format.specs.Changing.{entry_as};
 ghost use Rattle.eden_overlay_format.specs.Directory.{AreStorable};
 ghost use Rattle.eden_overlay.specs.Held.{with_entries};
 ghost use Rattle.eden_overlay.specs.Soundness.{AreSound};
 ghost use Rattle.eden_overlay.specs.declared.files.FilesFault.TheVariants as files;
-ghost use Rattle.eden_inode.specs.Listed.{listed_as, origin_as};
+ghost use Rattle.eden_inode.specs.Listed.{DiffersAt, listed_as, origin_as};
 
 use eden_model::{Name, Origin, World};
 use eden_overlay::{Files, FilesFault, Overlay};
-use eden_overlay_format::Listing;
+use eden_overlay_format::{Listing, RowFacts};
 use eden_tree::Dir;
 use std::alloc::{AllocError, Allocator, Global};
 
@@ -86,4 +88,49 @@ pub fn save<A: Allocator, W: World, F: Files<W>>(
 {
     let entries = write_listing(overlay.room(alloc), dir, listed)?;
     overlay.put_listing(alloc, number, entries)
+}
+
+/// What is to be stored of the entry of that name, if anything.
+fn facts_in<A: Allocator>(dir: &Dir<A>, listed: Listed<'_>, name: &Name) -> Option<RowFacts>
+    ensures { option_map (entry_as name.now) result ≡ named (λ e. e.name) name.now (listed_as listed.entry dir.now) }
+{
+    // Says to the proof that names rise.
+    let _ = dir.count();
+    match dir.get(name) {
+        None => None,
+        Some(entry) => match origin_in(listed, name, entry.origin) {
+            None => None,
+            Some(origin) => Some(RowFacts {
+                kind: entry.kind,
+                origin,
+                number: entry.number,
+            }),
+        },
+    }
+}
+
+/// Stores a directory so as the file of that number, which holds other entries in the one of that name alone: so no
+/// other is written anew where the overlay keeps the file's body. After an error nothing has changed.
+pub fn save_changed<A: Allocator, W: World, F: Files<W>>(
+    alloc: Global,
+    overlay: &mut Overlay<W, F>,
+    number: u64,
+    dir: &Dir<A>,
+    listed: Listed<'_>,
+    name: &Name,
+) -> Result<(), FilesFault>
+    requires entries { AreStorable (listed_as listed dir.now) }
+    requires differs { W.honest → DiffersAt name.now (F.stored overlay.old) number (listed_as listed dir.now) }
+    requires sound { W.honest → AreSound (with_entries (F.stored overlay.old) number (listed_as listed dir.now)) }
+    ensures ok { W.honest
+        → OnOk result (F.stored overlay.new ≡ with_entries (F.stored overlay.old) number
+        (listed_as listed.entry dir.now)) }
+    ensures err { W.honest → OnErr result (F.stored overlay.new ≡ F.stored overlay.old) }
+    ensures counted { Counted (result ≡ Err files.Device) (F.failures overlay.old) (F.failures overlay.new) }
+{
+    let facts = facts_in(dir, listed, name);
+    if overlay.change_entry(alloc, number, name, facts)? {
+        return Ok(());
+    }
+    save(alloc, overlay, number, dir, listed)
 }

@@ -4,6 +4,7 @@ mod Swapped
 mod Order
 mod Moves
 mod Listings
+mod OneChange
 mod Within
 mod EntryMoves
 mod Chains

@@ -1,5 +1,5 @@
 -- One entry of a listing changed: what its stores need, what it keeps, and what is shown then.
-use Rattle.std.proofs.Common.{◌≡◌, ◌⊎◌, ℕ, [], ◌∷◌, ◌++◌, Option, Some, None, IfSome, Result, Ok, Err, OnOk, OnErr, inl, inr, refl, sym, ap, ◌∙◌, subst}
+use Rattle.std.proofs.Common.{◌≡◌, ◌⊎◌, ℕ, [], ◌∷◌, ◌++◌, Option, Some, Result, Ok, Err, OnOk, OnErr, inl, inr, refl, sym, ap, ◌∙◌, subst}
 use Rattle.std.proofs.lemmas.Option.{same_Some}
 use Rattle.eden_model.specs.declared.fault.Fault.{Fault}
 use Rattle.eden_model.specs.Repository.{Repository}
@@ -10,7 +10,7 @@ use Rattle.eden_overlay.specs.Held.{with_entries}
 use Rattle.eden_tree.specs.Directory.{Row, Directory, child_of, with_child}
 use Rattle.eden_tree.specs.Paths.{row_at, edit_row}
 use Rattle.eden_tree.proofs.CallerLemmas.{child_of-with_child, edits_alike}
-use Rattle.eden_coupling.specs.Chains.{IsLoadedAt, NoneMarked, StaysLoaded, chained, Above, Unfinished, listed, Refused, at_first, later}
+use Rattle.eden_coupling.specs.Chains.{IsLoadedAt, NoneMarked, StaysLoaded, Above, Unfinished, listed, Refused, at_first, later}
 use Rattle.eden_coupling.specs.Changing.{changed, with_listing}
 use Rattle.eden_coupling.specs.Kept.{IsTable, IsKept}
 use Rattle.eden_coupling.specs.Listings.{listing_of}
@@ -19,6 +19,7 @@ use Rattle.eden_coupling.specs.ShownLaws.{shown_from}
 use Rattle.eden_coupling.specs.Standing.{MayStand}
 use Rattle.eden_coupling.proofs.CallerLemmas.{at_changed, loaded_there, above_back, unfinished_back, refused_kept, refused_alike, stands_sound, put_sound, stands_table, stands_marks, stands_stays}
 use Rattle.eden_coupling.proofs.CallerLemmas.{stands_kept, stands_grafts}
+use Rattle.eden_inode.specs.Listed.{DiffersAt}
 use Rattle.eden_materialise.specs.Chains.{StaySound}
 use Rattle.eden_materialise.specs.Listings.{IsHeldFor, ChangesEntry}
 use Rattle.eden_materialise.specs.Moves.{changed_in, IsPutAt}
@@ -55,6 +56,9 @@ module _ (honest : Type 0) (R : Repository) (F : Stored) (x : Row) (p : Path) (n
   drop_refused G (inl same) = at_first same
   drop_refused G (inr u) = later may.row may.directory (with_entries F may.row.number (listing_of new)) may.at may.holds (listed (listing_of new) may.storable refl) u
 
+  pub drop_differs : DiffersAt n F may.row.number (listing_of new) → AtDirectory p x (λ y d. DiffersAt n F y.number (listing_of (changed d n o)))
+  drop_differs told = at_directory p x may.row may.directory (λ y d. DiffersAt n F y.number (listing_of (changed d n o))) may.at may.holds told
+
   -- the table with it there, or without it
   pub changed_is : (d : Directory) (y : Row) → row_at p x ≡ Some y → child_of y ≡ Some d → edit_row p (changed_in n o) x ≡ with_listing p (changed d n o) x
   changed_is d y at h = sym (edits_alike p (with_child (Some (changed d n o))) (changed_in n o) x y at (sym (changed_held n o y d h)))
@@ -75,6 +79,9 @@ module _ (honest : Type 0) (R : Repository) (F : Stored) (x : Row) (p : Path) (n
 
   pub put_can_be : AtDirectory p then (λ y d. AreStorable (listing_of d))
   put_can_be = at_directory p then (with_child (Some new) may.row) new (λ y d. AreStorable (listing_of d)) then_at then_holds may.storable
+
+  pub put_differs : DiffersAt n F may.row.number (listing_of new) → AtDirectory p then (λ y d. DiffersAt n F y.number (listing_of d))
+  put_differs told = at_directory p then (with_child (Some new) may.row) new (λ y d. DiffersAt n F y.number (listing_of d)) then_at then_holds told
 
   pub put_stays_sound : honest → AtDirectory p then (λ y d. StaySound (with_entries F y.number (listing_of d)) then p)
   put_stays_sound h = at_directory p then (with_child (Some new) may.row) new (λ y d. StaySound (with_entries F y.number (listing_of d)) then p) then_at then_holds

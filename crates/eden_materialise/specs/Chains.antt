@@ -1,5 +1,5 @@
 -- A chain of directories that is stored, its lowest one first.
-use Rattle.std.specs.Prelude.{◌≡◌, ◌⊎◌, ℕ, true, if◌then◌else◌, List, Option, Some, None, Result, OnOk, OnErr, IfErr}
+use Rattle.std.specs.Prelude.{◌≡◌, ◌⊎◌, ℕ, true, false, if◌then◌else◌, List, Option, Some, None, Result, OnOk, OnErr, IfErr}
 use Rattle.eden_model.specs.declared.fault.Fault.{Fault}
 use Rattle.eden_model.specs.Repository.{Repository}
 use Rattle.eden_model.specs.Trees.{Name, Path}
@@ -22,6 +22,10 @@ use Rattle.eden_inode.specs.Listed.{listed_as}
 abbrev pub lowest_of : Option Listed → Row → Directory → Option (List StoredEntry)
 lowest_of None y d = if is_own y.origin then None else Some (listing_of d)
 lowest_of (Some l) y d = Some (listed_as l d)
+
+-- a directory of the mount's own that isn't marked unsaved
+abbrev pub IsOwnAndSaved : Row → Directory → Type 0
+IsOwnAndSaved y d = (is_own y.origin ≡ true) × (d.unsaved ≡ false)
 
 -- file k with those entries, where there are any
 abbrev pub with_lowest : Stored → ℕ → Option (List StoredEntry) → Stored

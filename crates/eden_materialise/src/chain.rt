@@ -12,10 +12,11 @@ ghost use Rattle.eden_tree.specs.Rows.{find_row};
 ghost use Rattle.eden_coupling.specs.Chains.{IsLoadedAt, IsAboveOther, Above, Unfinished, Refused};
 ghost use Rattle.eden_coupling.specs.Laws.{owned};
 ghost use Rattle.eden_coupling.specs.Materialising.{marked_listing, Chain, IsChain, kept_mark, owned_along};
-ghost use Rattle.eden_materialise.specs.Chains.{lowest_of, with_lowest, StoresAgain, StaySound, IsHeld};
+ghost use Rattle.eden_inode.specs.Listed.{DiffersAt};
+ghost use Rattle.eden_materialise.specs.Chains.{lowest_of, with_lowest, IsOwnAndSaved, StoresAgain, StaySound, IsHeld};
 ghost use Rattle.eden_materialise.specs.Puts.{AtDirectory};
 
-use eden_inode::{Listed, save};
+use eden_inode::{Listed, save, save_changed};
 use eden_model::{Name, Origin, World};
 use eden_overlay::{Files, FilesFault, Overlay};
 use eden_tree::{Dir, Entry};
@@ -42,19 +43,47 @@ fn are_own(one: Origin, other: Origin) -> bool
     false
 }
 
-/// Stores the directory at a path so, or where it isn't told how, whole, unless it is its own already.
+/// The name, where the directory at a path is the mount's own and saved: then its file lists what it has in memory, and
+/// once the entry of that name changes it differs from that in this entry alone.
+pub(crate) fn differing<'a, A: Allocator>(
+    root: &Entry<A>,
+    path: &[Name],
+    name: &'a Name,
+) -> Option<&'a Name>
+    ensures { IfSome result (λ n. (n.now ≡ name.now) × AtDirectory path.now root.now IsOwnAndSaved) }
+{
+    match root.walk(path) {
+        None => None,
+        Some(entry) => match entry.directory() {
+            None => None,
+            Some(dir) => {
+                if is_own(entry.origin) && !dir.unsaved() {
+                    return Some(name);
+                }
+                None
+            }
+        },
+    }
+}
+
+/// Stores the directory at a path so, or where it isn't told how, whole, unless it is its own already. Where its file
+/// differs from that in the entry of a name alone, that name is told.
 fn store_lowest<A: Allocator, W: World, F: Files<W>>(
     alloc: Global,
     root: &Entry<A>,
     overlay: &mut Overlay<W, F>,
     path: &[Name],
     lowest: Option<Listed<'_>>,
+    differing: Option<&Name>,
 ) -> Result<(), FilesFault>
     requires loaded { IsLoadedAt path.now root.now }
     requires entries { AtDirectory path.now root.now (λ y d. IfSome (lowest_of lowest y d) AreStorable) }
     requires sound { W.honest
         → AtDirectory path.now root.now
         (λ y d. AreSound (with_lowest (F.stored overlay.old) y.number (lowest_of lowest y d))) }
+    requires differs { W.honest
+        → IfSome differing (λ n. AtDirectory path.now root.now
+        (λ y d. IfSome (lowest_of lowest y d) (DiffersAt n.now (F.stored overlay.old) y.number))) }
     ensures ok { W.honest
         → AtDirectory path.now root.now
         (λ y d. OnOk result (F.stored overlay.new ≡ with_lowest (F.stored overlay.old) y.number
@@ -67,7 +96,12 @@ fn store_lowest<A: Allocator, W: World, F: Files<W>>(
         Some(entry) => match entry.directory() {
             None => unreachable!(),
             Some(dir) => match lowest {
-                Some(listed) => return save(alloc, overlay, entry.number, dir, listed),
+                Some(listed) => match differing {
+                    Some(name) => {
+                        return save_changed(alloc, overlay, entry.number, dir, listed, name);
+                    }
+                    None => return save(alloc, overlay, entry.number, dir, listed),
+                },
                 None => {
                     if is_own(entry.origin) {
                         return Ok(());
@@ -135,7 +169,8 @@ fn store_above<A: Allocator, W: World, F: Files<W>>(
 }
 
 /// Stores the chain of loaded directories along a path, from the lowest up: that one so, and each above it that isn't
-/// the mount's own or stands above one that isn't.
+/// the mount's own or stands above one that isn't. Where the file of that one differs from what is to be stored in the
+/// entry of a name alone, that name is told.
 ///
 /// Where the device fails or there is no memory, some of them may have been stored, the lowest first.
 pub(crate) fn store_chain<A: Allocator, W: World, F: Files<W>>(
@@ -144,6 +179,7 @@ pub(crate) fn store_chain<A: Allocator, W: World, F: Files<W>>(
     overlay: &mut Overlay<W, F>,
     path: &[Name],
     lowest: Option<Listed<'_>>,
+    differing: Option<&Name>,
 ) -> Result<(), FilesFault>
     requires chain { IsChain root.now path.now }
     requires loaded { IsLoadedAt path.now root.now }
@@ -151,6 +187,9 @@ pub(crate) fn store_chain<A: Allocator, W: World, F: Files<W>>(
     requires sound { W.honest
         → AtDirectory path.now root.now
         (λ y d. StaySound (with_lowest (F.stored overlay.old) y.number (lowest_of lowest y d)) root.now path.now) }
+    requires differs { W.honest
+        → IfSome differing (λ n. AtDirectory path.now root.now
+        (λ y d. IfSome (lowest_of lowest y d) (DiffersAt n.now (F.stored overlay.old) y.number))) }
     ensures ok { W.honest
         → AtDirectory path.now root.now
         (λ y d. OnOk result (Above
@@ -164,7 +203,7 @@ pub(crate) fn store_chain<A: Allocator, W: World, F: Files<W>>(
         (F.stored overlay.new))) }
     ensures counted { Counted (result ≡ Err files.Device) (F.failures overlay.old) (F.failures overlay.new) }
 {
-    store_lowest(alloc, root, overlay, path, lowest)?;
+    store_lowest(alloc, root, overlay, path, lowest, differing)?;
     store_above(alloc, root, overlay, path)
 }
 
@@ -229,7 +268,7 @@ pub(crate) fn own_chain<A: Allocator, W: World, F: Files<W>>(
     ensures strays { W.honest → OnErr result (Refused (F.stored overlay.old) root.old path.now (F.stored overlay.new)) }
     ensures counted { Counted (result ≡ Err files.Device) (F.failures overlay.old) (F.failures overlay.new) }
 {
-    store_chain(alloc, root, overlay, path, None)?;
+    store_chain(alloc, root, overlay, path, None, None)?;
     mark_own(root, path);
     Ok(())
 }

@@ -16,7 +16,7 @@ ghost use Rattle.eden_materialise.specs.Faults.{IsStoreFault};
 ghost use Rattle.eden_materialise.specs.Listings.{IsHeldFor, ChangesEntry};
 ghost use Rattle.eden_materialise.specs.Puts.{AtDirectory};
 
-use crate::chain::{mark_own, store_chain};
+use crate::chain::{differing, mark_own, store_chain};
 use crate::fault::told;
 use crate::memory::{put_at, remove_at, take_back_at};
 use eden_inode::{Inodes, Listed};
@@ -45,7 +45,15 @@ pub(crate) fn take_out<A: Allocator, W: World, F: Files<W>>(
     ensures strays { W.honest → OnErr result (Refused (F.stored overlay.old) root.old path.now (F.stored overlay.new)) }
     ensures counted { Counted (result ≡ Err files.Device) (F.failures overlay.old) (F.failures overlay.new) }
 {
-    store_chain(alloc, root, overlay, path, Some(Listed::Without(name)))?;
+    let changed = differing(root, path, name);
+    store_chain(
+        alloc,
+        root,
+        overlay,
+        path,
+        Some(Listed::Without(name)),
+        changed,
+    )?;
     remove_at(root, path, name);
     mark_own(root, path);
     Ok(())
@@ -73,11 +81,12 @@ pub(crate) fn put_in<A: Allocator, W: World, F: Files<W>>(
     ensures strays { W.honest → OnErr result (Refused (F.stored overlay.old) root.old path.now (F.stored overlay.new)) }
     ensures counted { Counted (result ≡ Err files.Device) (F.failures overlay.old) (F.failures overlay.new) }
 {
+    let changed = differing(root, path, name);
     let was = match put_at(alloc, root, path, name, entry) {
         Ok(was) => was,
         Err(_) => return Err(FilesFault::Memory),
     };
-    match store_chain(alloc, root, overlay, path, Some(Listed::Whole)) {
+    match store_chain(alloc, root, overlay, path, Some(Listed::Whole), changed) {
         Ok(()) => {
             mark_own(root, path);
             return Ok(());

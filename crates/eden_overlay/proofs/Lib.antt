@@ -20,3 +20,4 @@ mod Kept
 mod Lengths
 mod Whole
 mod Parts
+mod Remembered

@@ -1,9 +1,12 @@
 -- What is kept of stored files in memory, and known of them.
-use Rattle.std.specs.Prelude.{ℕ, ◌≡◌, ◌≤◌, ◌<◌, ◌==◌, ◌+◌, ◌++◌, ◌⊎◌, Bool, true, not, List, [], ◌∷◌, find, filter, Option, option_map, length, IsSome}
+use Rattle.std.specs.Prelude.{ℕ, ◌≡◌, ◌≤◌, ◌<◌, ◌==◌, ◌+◌, ◌++◌, ◌^◌, ◌⊎◌, Bool, true, not, List, [], ◌∷◌, find, filter, length}
+use Rattle.std.specs.Prelude.{Option, Some, None, option_map, IsSome, if◌then◌else◌}
 use Rattle.std.specs.List.{list_any}
+use Rattle.eden_overlay_format.specs.declared.stored_entry.StoredEntry.{StoredEntry}
+use Rattle.eden_overlay.specs.declared.last_body.KeptBody.{KeptBody}
 use Rattle.eden_overlay.specs.declared.recent.Kept.{Kept}
 use Rattle.eden_overlay.specs.Files.{Stored}
-use Rattle.eden_overlay.specs.Held.{HoldsContent, content_at}
+use Rattle.eden_overlay.specs.Held.{HoldsContent, HoldsEntries, content_at}
 
 -- each content that is kept is the one that its file holds
 unfoldable pub AreKeptOf : Stored → List Kept → Type 0
@@ -73,3 +76,24 @@ AddsOne number old new = (k : ℕ) → is_one_of k new ≡ true → (k ≡ numbe
 -- all that is kept and known of the files is so
 abbrev pub AreKnownOf : Stored → List Kept → List ℕ → Type 0
 AreKnownOf F kept numbers = AreKeptOf F kept × AreWhole F numbers
+
+-- ---- the directory whose body is kept
+
+-- its entries are those that its file holds
+unfoldable pub IsBodyKept : Stored → Option KeptBody → Type 0
+IsBodyKept F None = Unit {0}
+IsBodyKept F (Some k) = HoldsEntries F k.number k.body
+
+-- the entries of that directory, if its body is kept
+abbrev pub kept_entries : ℕ → Option KeptBody → Option (List StoredEntry)
+kept_entries number None = None
+kept_entries number (Some k) = if k.number == number then Some k.body else None
+
+-- what is kept of another
+abbrev pub kept_but : ℕ → Option KeptBody → Option KeptBody
+kept_but number None = None
+kept_but number (Some k) = if k.number == number then None else Some k
+
+-- a body of so many bytes is kept: from 256 bytes to 4 MiB
+abbrev pub IsKeptLong : ℕ → Type 0
+IsKeptLong long = (2 ^ 8 ≤ long) × (long ≤ 2 ^ 22)

@@ -7,6 +7,7 @@ pub mod Soundness
 pub mod Counting
 pub mod Getting
 pub mod Keeping
+pub mod Changing
 pub mod Laws
 pub mod Rescanning
 pub mod Walking

@@ -24,6 +24,7 @@ mod fault;
 mod files;
 mod folder;
 mod gate;
+mod last_body;
 mod laws;
 mod mark;
 mod memory;

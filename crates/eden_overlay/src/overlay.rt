@@ -1,13 +1,15 @@
 //! The files of an overlay, stored and got as what they hold.
 
-ghost use Rattle.std.specs.Prelude.{◌≡◌, ◌≢◌, ◌≤◌, Err, Some, true, length, OnOk, OnErr, IfOk, IfErr, IsSome};
+ghost use Rattle.std.specs.Prelude.{◌≡◌, ◌≢◌, ◌≤◌, Err, Ok, Some, true, length, OnOk, OnErr, IfOk, IfErr};
+ghost use Rattle.std.specs.Prelude.{IfSome, IsSome};
 ghost use Rattle.std.specs.Ordering.{nat_cmp};
 ghost use Rattle.std.specs.List.Sorted.{IsStrictlySortedBy};
 ghost use Rattle.eden_model.specs.Limits.{number_least, number_end};
 ghost use Rattle.eden_model.specs.Failures.{Counted};
 ghost use Rattle.eden_overlay_format.specs.declared.header.Identifier.TheVariants as identifier;
 ghost use Rattle.eden_overlay_format.specs.Content.{content_most};
-ghost use Rattle.eden_overlay_format.specs.Directory.{AreStorable};
+ghost use Rattle.eden_overlay_format.specs.Changing.{entry_as};
+ghost use Rattle.eden_overlay_format.specs.Directory.{AreStorable, IsStorable};
 ghost use Rattle.eden_overlay_format.specs.State.{IsGoodState};
 ghost use Rattle.eden_overlay_format.specs.Values.{content_in, state_in, entries_in};
 ghost use Rattle.eden_overlay.specs.Files.{Lists};
@@ -17,9 +19,10 @@ ghost use Rattle.eden_overlay.specs.Held.{with_content, with_entries, with_numbe
 ghost use Rattle.eden_overlay.specs.Soundness.{AreSound};
 ghost use Rattle.eden_overlay.specs.Tidying.{bytes_at};
 ghost use Rattle.eden_overlay.specs.Getting.{Explains, ExplainsLength, ExplainsNumbers, length_of, of_numbers};
-ghost use Rattle.std.specs.Option.{is_some};
+ghost use Rattle.std.specs.Option.{is_some, option_map};
 ghost use Rattle.eden_overlay_format.specs.Numbers.{none_is_own};
-ghost use Rattle.eden_overlay.specs.Keeping.{AreKnownOf};
+ghost use Rattle.eden_overlay.specs.Changing.{HasEntries, IsChanged, MayChange};
+ghost use Rattle.eden_overlay.specs.Keeping.{AreKnownOf, IsBodyKept};
 ghost use Rattle.eden_overlay.specs.Files.{part};
 ghost use Rattle.eden_overlay.specs.declared.files.FilesFault.TheVariants as files;
 ghost use Rattle.eden_overlay.specs.declared.fault.GetFault.TheVariants as get;
@@ -27,14 +30,14 @@ ghost use Rattle.eden_overlay.specs.declared.fault.GetFault.TheVariants as get;
 use crate::content::Content;
 use crate::fault::GetFault;
 use crate::files::{Files, FilesFault};
+use crate::last_body::LastBody;
 use crate::part::part_of;
 use crate::recent::Recent;
-use crate::room::Room;
-use eden_model::{Id, Obstacle, World};
+use eden_model::{Id, Name, Obstacle, World};
 use eden_overlay_format::{
-    DecodeFault, HEADER_LEN, Head, Identifier, Listing, Refusal, Spliced, State, StoredEntry,
-    content_len, decode_dir, decode_numbers, decode_state, encode_state, encode_unsealed_in,
-    has_numbers,
+    DecodeFault, DirectoryBody, HEADER_LEN, Head, Identifier, Listing, Refusal, RowFacts, Spliced,
+    State, StoredEntry, content_len, decode_dir, decode_numbers, decode_state, encode_state,
+    encode_unsealed_in, has_numbers,
 };
 use std::alloc::{AllocError, Global};
 use std::marker::{Model, PhantomData};
@@ -58,13 +61,19 @@ const LARGE: usize = 1 << 20;
 /// over 8 MiB that is stored in one piece doesn't, since that would be a copy, nor one of over 1 MiB that was read:
 /// that its file holds a content is known then, so that its parts are read there. Under an honest outside each content
 /// is what its file holds.
-/// The room that a file was written in stays too, at most 1 MiB of it for contents and for directories each: a store
+///
+/// The body of the directory that was stored last stays in memory too, if it has from 256 bytes to 4 MiB, in room of up
+/// to twice that, so that `change_entry` needn't write its other entries anew. A shorter one isn't kept, and another
+/// directory's stays then. It goes once something else is stored as its file. Under an honest outside its entries are
+/// what its file holds.
+///
+/// The room that a file was written in stays too, at most 1 MiB of it for contents and 4 MiB for directories: a store
 /// that needs no more takes no memory for its file.
 #[derive(Drop)]
 pub struct Overlay<W: World, F: Files<W>> {
     files: F,
     recent: Recent,
-    room: Room,
+    last: LastBody,
     world: PhantomData<W>,
 }
 
@@ -73,7 +82,8 @@ impl<W: World, F: Files<W>> Model for Overlay<W, F> {
 
     ghost view = { λ o. o.files };
 
-    ghost invariant = { λ o. W.honest → AreKnownOf (F.stored o.files) o.recent.kept.items o.recent.whole.items };
+    ghost invariant = { λ o. W.honest → AreKnownOf (F.stored o.files) o.recent.kept.items o.recent.whole.items
+        × IsBodyKept (F.stored o.files) o.last.kept };
 }
 
 impl<W: World, F: Files<W>> Overlay<W, F> {
@@ -84,7 +94,7 @@ impl<W: World, F: Files<W>> Overlay<W, F> {
         Overlay {
             files,
             recent: Recent::new(alloc, 0),
-            room: Room::new(),
+            last: LastBody::new(),
             world: PhantomData,
         }
     }
@@ -137,6 +147,7 @@ impl<W: World, F: Files<W>> Overlay<W, F> {
                 return self.put_long(alloc, number, bytes);
             }
         }
+        self.last.release(number);
         // First, so that memory never holds what is kept of the file beside the new one.
         let room = self.recent.room(alloc, number);
         let stored = Content::of_unsealed(encode_unsealed_in(room, content)?);
@@ -157,6 +168,7 @@ impl<W: World, F: Files<W>> Overlay<W, F> {
         ensures counted { Counted (result ≡ Err files.Device) (F.failures self.old) (F.failures self.new) }
     {
         self.recent.forget(number);
+        self.last.release(number);
         self.files
             .replace_body(alloc, number, Identifier::File, content)?;
         self.recent.note_whole(number);
@@ -177,7 +189,7 @@ impl<W: World, F: Files<W>> Overlay<W, F> {
         ensures err { W.honest → OnErr result (F.stored self.new ≡ F.stored self.old) }
         ensures counted { Counted (result ≡ Err files.Device) (F.failures self.old) (F.failures self.new) }
     {
-        let listing = Listing::of(self.room.take(alloc), entries)?;
+        let listing = Listing::of(self.last.room(alloc), entries)?;
         self.put_listing(alloc, number, listing)
     }
 
@@ -185,7 +197,7 @@ impl<W: World, F: Files<W>> Overlay<W, F> {
     pub fn room(&mut self, alloc: Global) -> Vec<u8>
         ensures { self.new ≡ self.old }
     {
-        self.room.take(alloc)
+        self.last.room(alloc)
     }
 
     /// Stores a directory, whose entries are written already, as the file of that number, in place of any that was
@@ -202,14 +214,61 @@ impl<W: World, F: Files<W>> Overlay<W, F> {
         ensures err { W.honest → OnErr result (F.stored self.new ≡ F.stored self.old) }
         ensures counted { Counted (result ≡ Err files.Device) (F.failures self.old) (F.failures self.new) }
     {
+        self.put_body(alloc, number, DirectoryBody::of(listing))
+    }
+
+    /// Stores a directory anew with this as its entry of that name, or without one of it, of the body that is kept in
+    /// memory: true then. False where its body isn't kept: nothing has changed. After an error nothing has changed.
+    pub fn change_entry(
+        &mut self,
+        alloc: Global,
+        number: u64,
+        name: &Name,
+        facts: Option<RowFacts>,
+    ) -> Result<bool, FilesFault>
+        requires storable { IfSome facts (λ f. IsStorable (entry_as name.now f)) }
+        requires sound { W.honest
+            → MayChange (F.stored self.old) number name.now (option_map (entry_as name.now) facts) }
+        ensures stored { W.honest → result ≡ Ok true → IsChanged (F.stored self.old) number name.now
+            (option_map (entry_as name.now) facts) (F.stored self.new) }
+        ensures held { W.honest → result ≡ Ok true → HasEntries (F.stored self.old) number }
+        ensures kept { W.honest → result ≢ Ok true → F.stored self.new ≡ F.stored self.old }
+        ensures counted { Counted (result ≡ Err files.Device) (F.failures self.old) (F.failures self.new) }
+    {
+        let Some(body) = self.last.changed(alloc, number, name, facts)? else {
+            return Ok(false);
+        };
+        self.put_body(alloc, number, body)?;
+        Ok(true)
+    }
+
+    // Stores a directory's body, and keeps it. What is kept of another body of the directory stays where that fails.
+    fn put_body(
+        &mut self,
+        alloc: Global,
+        number: u64,
+        body: DirectoryBody,
+    ) -> Result<(), FilesFault>
+        requires entries { W.honest → AreStorable body }
+        requires sound { W.honest → AreSound (with_entries (F.stored self.old) number body) }
+        ensures ok { W.honest → OnOk result (F.stored self.new ≡ with_entries (F.stored self.old) number body) }
+        ensures err { W.honest → OnErr result (F.stored self.new ≡ F.stored self.old) }
+        ensures counted { Counted (result ≡ Err files.Device) (F.failures self.old) (F.failures self.new) }
+    {
         self.recent.forget(number);
-        let file = listing.into_unsealed();
-        let (_, body) = file.split_at(HEADER_LEN);
         let answer = self
             .files
-            .replace_body(alloc, number, Identifier::Directory, body);
-        self.room.keep(file);
-        answer
+            .replace_body(alloc, number, Identifier::Directory, body.bytes());
+        match answer {
+            Ok(()) => {
+                self.last.keep(number, body);
+                Ok(())
+            }
+            Err(fault) => {
+                self.last.spare(body);
+                Err(fault)
+            }
+        }
     }
 
     /// The content of the file of that number, or why there is none. The files aren't asked for a content that is kept.
@@ -374,9 +433,10 @@ impl<W: World, F: Files<W>> Overlay<W, F> {
         ensures counted { Counted (result ≡ Err files.Device) (F.failures self.old) (F.failures self.new) }
     {
         self.recent.forget(number);
+        self.last.release(number);
         let bytes = listing.into_numbers(tree)?;
         let answer = self.files.replace(alloc, number, &bytes);
-        self.room.keep(bytes);
+        self.last.room.keep(bytes);
         answer
     }
 
@@ -421,6 +481,7 @@ impl<W: World, F: Files<W>> Overlay<W, F> {
         ensures counted { Counted (result ≡ Err files.Device) (F.failures self.old) (F.failures self.new) }
     {
         self.recent.forget(number);
+        self.last.release(number);
         self.files.remove(number)
     }
 
@@ -434,6 +495,7 @@ impl<W: World, F: Files<W>> Overlay<W, F> {
         ensures counted { Counted (result ≡ Err files.Device) (F.failures self.old) (F.failures self.new) }
     {
         self.recent.forget(STATE_NUMBER);
+        self.last.release(STATE_NUMBER);
         let bytes = encode_state(alloc, state)?;
         self.files.replace(alloc, STATE_NUMBER, &bytes)
     }
@@ -461,6 +523,7 @@ impl<W: World, F: Files<W>> Overlay<W, F> {
         ensures counted { Counted (result ≡ Err files.Device) (F.failures self.old) (F.failures self.new) }
     {
         self.recent.forget(STATE_NUMBER);
+        self.last.release(STATE_NUMBER);
         self.files.remove(STATE_NUMBER)
     }
 

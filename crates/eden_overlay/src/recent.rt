@@ -15,6 +15,9 @@ const CONTENTS_MOST: usize = 8;
 /// How many files are known to be whole at most.
 const WHOLE_MOST: usize = 256;
 
+/// The most room that stays of a content that went, in bytes.
+const ROOM_MOST: usize = 1 << 20;
+
 /// A content in memory, and the number of the file that holds it.
 #[derive(Drop)]
 pub(crate) struct Kept {
@@ -57,7 +60,7 @@ impl Recent {
             kept: Vec::new(alloc),
             most,
             whole: Vec::new(alloc),
-            room: Room::new(),
+            room: Room::new(ROOM_MOST),
         }
     }
 

@@ -5,6 +5,8 @@ pub mod Rows
 pub mod Rising
 pub mod Loop
 pub mod Listed
+pub mod Passing
+pub mod Bodies
 pub mod Found
 pub mod NumbersFound
 mod Lengths

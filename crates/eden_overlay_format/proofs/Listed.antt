@@ -10,20 +10,22 @@ use Rattle.eden_overlay_format.specs.declared.stored_entry.StoredEntry.{StoredEn
 use Rattle.eden_overlay_format.specs.Stored.{written}
 use Rattle.eden_overlay_format.specs.Directory.{IsStorable, row, directory_body}
 use Rattle.eden_overlay_format.specs.Numbers.{numbers_body}
-use Rattle.eden_overlay_format.specs.Listing.{rows_read, entries_under_way, IsUnderWay}
-use Rattle.eden_overlay_format.specs.Reading.{rows_at}
+use Rattle.eden_overlay_format.specs.Listing.{rows_read, entries_read, entries_under_way, AreRowsOf, IsUnderWay}
 use Rattle.eden_overlay_format.proofs.Headers.{sealed}
 use Rattle.eden_overlay_format.proofs.Rows.{rows_again}
+
+-- what rows are is what they are read as
+pub read_again : (es : List StoredEntry) (count : ℕ) (rows : List ℕ) → AreRowsOf es count rows → entries_read count rows ≡ es
+read_again es count rows r =
+    ap (λ n. entries_read n rows) (sym r.counted) ∙ ap (entries_read (length es)) (r.written ∙ sym (append-nil (flat_map row es))) ∙ ap rows_read (rows_again es [] r.each)
+
+rows_behind : (count : ℕ) (file : List ℕ) (u : IsUnderWay count file) → AreRowsOf u.entries count (drop 68 file)
+rows_behind count file u = record { each = u.each; counted = u.counted; written = ap (drop 68) u.rows ∙ drop_at (replicate 68 0) (flat_map row u.entries) 68 refl }
 
 -- what stands there is what contracts see
 pub seen : (count : ℕ) (file : List ℕ) (u : IsUnderWay count file) → entries_under_way count file ≡ u.entries
 unfolding entries_under_way
-seen count file u =
-    let behind : drop 68 file ≡ flat_map row u.entries ++ [] =
-    ap (drop 68) u.rows ∙ drop_at (replicate 68 0) (flat_map row u.entries) 68 refl ∙ sym (append-nil (flat_map row u.entries)) in
-    ap (λ n. rows_read (rows_at n (drop 68 file))) (sym u.counted)
-    ∙ ap (λ bytes. rows_read (rows_at (length u.entries) bytes)) behind
-    ∙ ap rows_read (rows_again u.entries [] u.each)
+seen count file u = read_again u.entries count (drop 68 file) (rows_behind count file u)
 
 pub empty : (file : List ℕ) → file ≡ replicate 68 0 → IsUnderWay 0 file
 empty file e = record { entries = []; each = tt; counted = refl; rows = e ∙ sym (append-nil (replicate 68 0)) }
@@ -60,7 +62,7 @@ module _ (count : ℕ) (file filled : List ℕ) (u : IsUnderWay count file) (cou
   -- the count is written in its room
   pub body : filled ≡ replicate 64 0 ++ directory_body entries
   body =
-      let behind : drop 68 file ≡ flat_map row u.entries = ap (drop 68) u.rows ∙ drop_at (replicate 68 0) (flat_map row u.entries) 68 refl in
+      let behind : drop 68 file ≡ flat_map row u.entries = (rows_behind count file u).written in
       counted ∙ ap (λ (n : ℕ). replicate 64 0 ++ to_be_bytes w32 n ++ drop 68 file) (sym u.counted)
       ∙ ap (λ (rows : List ℕ). replicate 64 0 ++ to_be_bytes w32 (length u.entries) ++ rows) behind
       ∙ ap (λ (es : List StoredEntry). replicate 64 0 ++ directory_body es) (sym (seen count file u))

@@ -5,5 +5,6 @@ pub mod Numbers
 pub mod State
 pub mod Reading
 pub mod Listing
+pub mod Changing
 pub mod Values
 pub mod Laws

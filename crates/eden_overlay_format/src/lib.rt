@@ -8,6 +8,7 @@
 
 mod content;
 mod directory;
+mod directory_body;
 mod fields;
 mod header;
 mod laws;
@@ -15,12 +16,14 @@ mod listing;
 mod numbers;
 mod refusal;
 mod spliced;
+mod split;
 mod state;
 mod stored_entry;
 mod writing;
 
 pub use content::{CONTENT_MOST, content_len, decode_file, encode_file, encode_unsealed_in};
 pub use directory::{decode_dir, encode_dir, is_rising};
+pub use directory_body::{DirectoryBody, RowFacts};
 pub use header::{HEADER_LEN, Head, Identifier, header_of};
 pub use laws::format_laws;
 pub use listing::Listing;

@@ -2,6 +2,7 @@
 
 ghost use Rattle.std.specs.Prelude.{◌≡◌, ◌≤◌, ◌<◌, ◌++◌, [], ◌∷◌, length, take, drop, replicate, IfOk, OnOk};
 ghost use Rattle.std.specs.Int.{w32, to_be_bytes};
+ghost use Rattle.std.specs.List.{AllByRecursion};
 ghost use Rattle.eden_overlay_format.specs.Stored.{written};
 ghost use Rattle.eden_overlay_format.specs.Directory.{IsStorable, AreStorable, directory_body};
 ghost use Rattle.eden_overlay_format.specs.Numbers.{numbers_body};
@@ -21,7 +22,7 @@ const COUNT_LEN: usize = 4;
 const ID_LEN: usize = 20;
 
 /// The length of what stands before the rows, in bytes.
-const FRONT_LEN: usize = HEADER_LEN + COUNT_LEN;
+pub(crate) const FRONT_LEN: usize = HEADER_LEN + COUNT_LEN;
 
 /// The room that is made for a row at first, in bytes: that of one with a name of 21 bytes and no id.
 const ROW_ROOM: usize = 32;
@@ -90,12 +91,22 @@ impl Listing {
         })
     }
 
+    /// The body of a directory with these entries, behind room for the header of its stored file, and their count.
+    pub(crate) fn into_counted(self) -> (Vec<u8>, u32)
+        ensures body { result.0.items ≡ replicate 64 0 ++ directory_body self }
+        ensures counted { result.1 ≡ length self }
+        ensures each { AllByRecursion IsStorable self }
+    {
+        let Listing { mut file, count } = self;
+        put_count(&mut file, count);
+        (file, count)
+    }
+
     /// The body of a directory with these entries, behind room for the header of its stored file.
     pub fn into_unsealed(self) -> Vec<u8>
         ensures { result.items ≡ replicate 64 0 ++ directory_body self }
     {
-        let Listing { mut file, count } = self;
-        put_count(&mut file, count);
+        let (file, _) = self.into_counted();
         file
     }
 

@@ -6,7 +6,8 @@ use Rattle.std.specs.contracts.impls.GlobalAllocator.TheImpl.{ghosts}
 use Rattle.eden_model.proofs.CallerLemmas.{Name-send}
 use Rattle.eden_tree.specs.contracts.dir.Entry
 use Rattle.eden_tree.proofs.dir.Dir.TheLaws.TheKnot as knot
-pub use Rattle.eden_tree.proofs.NameOrder.{order, same-≡, same-≢, same-refl, same-sym, same-both}
+pub use Rattle.eden_tree.proofs.NameOrder.{order, same-≡, same-≢, same-refl, same-sym, same-both, same-less, lt-less, lt-≡, beyond}
+pub use Rattle.eden_tree.proofs.Rising.{IsBelow, first_below, others}
 -- an entry's directory, as its field has it
 pub use Rattle.eden_tree.proofs.Children.{held, held_some, held_none, row_size-held, child_of-with_child, with_child-child_of}
 pub use Rattle.eden_tree.proofs.Edits.{child_of-change_child, change_rows-held, change_rows-unloaded, with_child-same}

@@ -9,7 +9,7 @@ use Rattle.eden_overlay.proofs.overlay.Overlay.get_len.Goals as goal
 pub returns-in-Some-clause-told : goal.returns-in-Some-clause-told
 returns-in-Some-clause-told g c = λ honest.
     subst (λ F. TellsLength (g.F.Files.stored F) c.args.number c.in-Some.len) c.self.view_is
-    (kept_tells (g.F.Files.stored c.self.inside.files) c.self.inside.recent.kept.items c.args.number c.in-Some.len (c.self.invariant honest).0 (sym c.len_of.ensures ∙ c.in-Some.is))
+    (kept_tells (g.F.Files.stored c.self.inside.files) c.self.inside.recent.kept.items c.args.number c.in-Some.len (c.self.invariant honest).0.0 (sym c.len_of.ensures ∙ c.in-Some.is))
 
 pub returns-clause-told : goal.returns-clause-told
 returns-clause-told g c = λ honest.
