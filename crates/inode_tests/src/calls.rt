@@ -1,5 +1,5 @@
-//! Calls that change a table, where the table as it stands allows them: None where it doesn't, and nothing is tried
-//! then.
+//! Calls that change a table, where the table as it stands allows them, and whether that was done. Where it doesn't
+//! allow them nothing is tried.
 
 ghost use Rattle.std.specs.Prelude.{◌≡◌, ◌≢◌, IsTrue};
 ghost use Rattle.eden_tree.specs.Directory.{Row, child_of};
@@ -8,10 +8,11 @@ ghost use Rattle.eden_coupling.specs.Filing.{HasFile};
 ghost use Rattle.eden_materialise.specs.Removals.{HasEntry};
 ghost use Rattle.inode_tests.specs.Places.{HasUnloaded, IsSource, IsTarget, CanRename};
 
-use crate::listing::{Question, ask, is_own, may_go};
+use crate::listing::{Own, Question, ask, is_own, may_go, put, take};
+use crate::names::Spot;
 use eden_inode::Inodes;
 use eden_materialise::{materialise, move_entry, remove_entry, set_kind, store_content};
-use eden_model::{Fault, Kind, Name, Outside};
+use eden_model::{Kind, Name, Outside};
 use eden_overlay::Files;
 use eden_overlay_format::Spliced;
 use eden_tree::{Dir, Entry};
@@ -39,11 +40,8 @@ pub(crate) fn own<A: Allocator + Clone, F: Files<Outside>>(
     alloc: Global,
     table: &mut Inodes<A, Outside, F>,
     path: &[Name],
-) -> Option<Result<(), Fault>> {
-    if !ask(table, &IsLoaded { path }) {
-        return None;
-    }
-    Some(materialise(table, alloc, path))
+) -> bool {
+    ask(table, &IsLoaded { path }) && materialise(table, alloc, path).is_ok()
 }
 
 /// Whether a name is there and not loaded.
@@ -78,16 +76,13 @@ impl<A: Allocator> Question<A> for Holds<'_> {
 }
 
 /// Removes the entry of a name, and its file.
-pub(crate) fn remove<A: Allocator + Clone, F: Files<Outside>>(
+fn remove<A: Allocator + Clone, F: Files<Outside>>(
     alloc: Global,
     table: &mut Inodes<A, Outside, F>,
     path: &[Name],
     name: &Name,
-) -> Option<Result<(), Fault>> {
-    if !ask(table, &Holds { path, name }) {
-        return None;
-    }
-    Some(remove_entry(table, alloc, path, name))
+) -> bool {
+    ask(table, &Holds { path, name }) && remove_entry(table, alloc, path, name).is_ok()
 }
 
 /// Whether the directory at a path is loaded, and has a file or a link of that name.
@@ -124,31 +119,29 @@ impl<A: Allocator> Question<A> for HoldsFile<'_> {
 }
 
 /// Gives the file of a name another kind.
-pub(crate) fn turn_into<A: Allocator + Clone, F: Files<Outside>>(
+fn turn_into<A: Allocator + Clone, F: Files<Outside>>(
     alloc: Global,
     table: &mut Inodes<A, Outside, F>,
     path: &[Name],
     name: &Name,
     kind: Kind,
-) -> Option<Result<(), Fault>> {
-    if kind == Kind::Dir || !ask(table, &HoldsFile { path, name }) {
-        return None;
-    }
-    Some(set_kind(table, alloc, path, name, kind))
+) -> bool {
+    kind != Kind::Dir
+        && ask(table, &HoldsFile { path, name })
+        && set_kind(table, alloc, path, name, kind).is_ok()
 }
 
-/// Stores a content for the file of a name. None for a content of more than 2^30 bytes too.
-pub(crate) fn fill<A: Allocator + Clone, F: Files<Outside>>(
+/// Stores a content of at most 2^30 bytes for the file of a name.
+fn fill<A: Allocator + Clone, F: Files<Outside>>(
     alloc: Global,
     table: &mut Inodes<A, Outside, F>,
     path: &[Name],
     name: &Name,
     content: &[u8],
-) -> Option<Result<(), Fault>> {
-    if content.len() > 1 << 30 || !ask(table, &HoldsFile { path, name }) {
-        return None;
-    }
-    Some(store_content(table, alloc, path, name, Spliced::whole(content)))
+) -> bool {
+    content.len() <= 1 << 30
+        && ask(table, &HoldsFile { path, name })
+        && store_content(table, alloc, path, name, Spliced::whole(content)).is_ok()
 }
 
 fn is_source<A: Allocator>(root: &Entry<A>, path: &[Name], name: &Name) -> bool
@@ -192,11 +185,11 @@ fn differ(one: &[Name], other: &[Name]) -> bool
 
 /// An entry that is to move: from a name of the directory at one path to one of that at another.
 #[derive(Drop)]
-pub(crate) struct Move<'a> {
-    pub(crate) from: &'a [Name],
-    pub(crate) name: &'a Name,
-    pub(crate) to: &'a [Name],
-    pub(crate) new_name: &'a Name,
+struct Move<'a> {
+    from: &'a [Name],
+    name: &'a Name,
+    to: &'a [Name],
+    new_name: &'a Name,
 }
 
 impl<A: Allocator> Question<A> for Move<'_> {
@@ -210,13 +203,13 @@ impl<A: Allocator> Question<A> for Move<'_> {
 }
 
 /// Moves an entry between directories that are the mount's own.
-pub(crate) fn rename<A: Allocator + Clone, F: Files<Outside>>(
+fn rename<A: Allocator + Clone, F: Files<Outside>>(
     alloc: Global,
     table: &mut Inodes<A, Outside, F>,
     entry: &Move<'_>,
-) -> Option<Result<(), Fault>> {
+) -> bool {
     if !ask(table, entry) {
-        return None;
+        return false;
     }
     let Move {
         from,
@@ -224,5 +217,53 @@ pub(crate) fn rename<A: Allocator + Clone, F: Files<Outside>>(
         to,
         new_name,
     } = *entry;
-    Some(move_entry(table, alloc, from, name, to, new_name))
+    move_entry(table, alloc, from, name, to, new_name).is_ok()
+}
+
+/// .. from one spot to another.
+pub(crate) fn move_to<A: Allocator + Clone, F: Files<Outside>>(
+    alloc: Global,
+    table: &mut Inodes<A, Outside, F>,
+    from: &Spot,
+    to: &Spot,
+) -> bool {
+    let entry = Move {
+        from: &from.path,
+        name: &from.name,
+        to: &to.path,
+        new_name: &to.name,
+    };
+    rename(alloc, table, &entry)
+}
+
+/// A change of what stands at a spot.
+#[derive(Clone, Copy)]
+pub(crate) enum What {
+    /// A file has another kind.
+    Turn(Kind),
+    /// A file has this content.
+    Fill(&'static [u8]),
+    /// An entry goes with its file.
+    Remove,
+    /// An own entry comes, whose file is stored.
+    Put(Own),
+    /// An entry goes without its file.
+    Take,
+}
+
+/// Changes what stands at a spot.
+pub(crate) fn change_at<A: Allocator + Clone, F: Files<Outside>>(
+    alloc: Global,
+    table: &mut Inodes<A, Outside, F>,
+    spot: &Spot,
+    what: What,
+) -> bool {
+    let path = spot.path.as_slice();
+    match what {
+        What::Turn(kind) => turn_into(alloc, table, path, &spot.name, kind),
+        What::Fill(content) => fill(alloc, table, path, &spot.name, content),
+        What::Remove => remove(alloc, table, path, &spot.name),
+        What::Put(own) => put(alloc, table, path, &spot.name, own),
+        What::Take => take(alloc, table, path, &spot.name),
+    }
 }

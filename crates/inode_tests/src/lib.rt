@@ -16,9 +16,13 @@ mod names;
 #[cfg(test)]
 mod own;
 #[cfg(test)]
+mod pair;
+#[cfg(test)]
 mod saved;
 #[cfg(test)]
 mod stops;
+#[cfg(test)]
+mod stored;
 #[cfg(test)]
 mod trails;
 #[cfg(test)]

@@ -8,11 +8,12 @@ ghost use Rattle.inode_tests.specs.Listings.{IsOpen, IsOpenAt, IsNewOwn, IsOwnFi
 
 use eden_inode::Inodes;
 use eden_materialise::change_entry;
-use eden_model::{Fault, Kind, Name, Origin, Outside};
+use eden_model::{Kind, Name, Origin, Outside};
 use eden_overlay::{Files, FilesFault, MemoryFiles, Overlay};
 use eden_overlay_format::Spliced;
 use eden_tree::{Change, Dir, Entry};
 use std::alloc::{Allocator, Global};
+use std::process::Abort;
 
 /// The numbers of entries are at least this one.
 const NUMBER_LEAST: u64 = 2;
@@ -129,46 +130,46 @@ fn entry_of<A: Allocator>(own: Own, next: u64) -> Option<Entry<A>>
     })
 }
 
-/// Has this under a name of the directory at a path, an entry or nothing. None where the table isn't open to that:
-/// nothing is tried then.
+/// Has this under a name of the directory at a path, an entry or nothing: whether that was done. Where the table isn't
+/// open to that, nothing is tried.
 fn change_open<A: Allocator + Clone, F: Files<Outside>>(
     alloc: Global,
     table: &mut Inodes<A, Outside, F>,
     path: &[Name],
     name: &Name,
     entry: Option<Entry<A>>,
-) -> Option<Result<(), Fault>>
+) -> bool
     requires { IfSome entry (IsNewOwn table.old.next) }
 {
     if !ask(table, &Opens { path, name }) {
-        return None;
+        return false;
     }
     table.holds();
-    Some(change_entry(table, alloc, path, name, entry))
+    change_entry(table, alloc, path, name, entry).is_ok()
 }
 
-/// Puts an own entry under a name of the directory at a path, in place of one that is there. None where the table isn't
-/// open to that, or the number was never given.
+/// Puts an own entry under a name of the directory at a path, in place of one that is there: whether that was done. It
+/// isn't where the table isn't open to that, or the number was never given.
 pub(crate) fn put<A: Allocator + Clone, F: Files<Outside>>(
     alloc: Global,
     table: &mut Inodes<A, Outside, F>,
     path: &[Name],
     name: &Name,
     own: Own,
-) -> Option<Result<(), Fault>> {
+) -> bool {
     match entry_of(own, table.next_number()) {
-        None => None,
+        None => false,
         Some(entry) => change_open(alloc, table, path, name, Some(entry)),
     }
 }
 
-/// Takes out what is under a name of the directory at a path. None where the table isn't open to that.
+/// Takes out what is under a name of the directory at a path: whether that was done.
 pub(crate) fn take<A: Allocator + Clone, F: Files<Outside>>(
     alloc: Global,
     table: &mut Inodes<A, Outside, F>,
     path: &[Name],
     name: &Name,
-) -> Option<Result<(), Fault>> {
+) -> bool {
     change_open(alloc, table, path, name, None)
 }
 
@@ -199,10 +200,10 @@ pub(crate) fn has_content<A: Allocator + Clone, F: Files<Outside>>(
     if !ask(table, &HoldsContent { path }) {
         return false;
     }
-    match table.content(alloc, path) {
-        Ok(content) => content.as_slice() == want,
-        Err(_) => false,
-    }
+    let content = table.content(alloc, path);
+    let is_so = matches!(&content, Ok(bytes) if bytes.as_slice() == want);
+    drop(content);
+    is_so
 }
 
 /// Stores a directory without entries.
@@ -215,10 +216,14 @@ fn put_empty<F: Files<Outside>>(
 }
 
 /// Files with an own root, which has no entries.
-pub(crate) fn first_files(alloc: Global) -> Result<MemoryFiles<Outside>, FilesFault> {
+pub(crate) fn first_files(rt: &impl Abort, alloc: Global) -> MemoryFiles<Outside> {
     let mut overlay = Overlay::new(alloc, MemoryFiles::<Outside>::new(alloc));
-    put_empty(alloc, &mut overlay, 1)?;
-    Ok(overlay.into_files())
+    put_root(rt, alloc, &mut overlay);
+    overlay.into_files()
+}
+
+fn put_root(rt: &impl Abort, alloc: Global, overlay: &mut Overlay<Outside, MemoryFiles<Outside>>) {
+    put_empty(alloc, overlay, 1).expect(rt, "files");
 }
 
 /// The file of an entry that is to come: a content, or a directory without entries.

@@ -1,72 +1,30 @@
 //! A table over files that stop, and whether it shows what a plain map says.
 
 ghost use Rattle.std.specs.Prelude.{◌≤◌};
+ghost use Rattle.eden_model.specs.declared.id.Id as id;
 ghost use Rattle.eden_model.specs.declared.kind.Origin.TheVariants as origin;
 ghost use Rattle.eden_model.specs.Limits.{number_least, number_end};
 ghost use Rattle.eden_coupling.specs.Loading.{IsAt};
+ghost use Rattle.eden_object.specs.Trees.{NamesDiffer};
 
-use crate::calls::{Move, own, remove, rename, turn_into};
-use crate::inodes::{entries, load_either};
-use crate::listing::{Own, Question, ask, has_content, put, store, take};
-use crate::names::name;
+use crate::calls::{What, change_at, move_to, own};
+use crate::listing::{Own, Question, ask, first_files, has_content, store};
+use crate::names::{Place, below, name, named, names, spot_of};
 use crate::tree::{Node, Tree};
 use eden_inode::Inodes;
-use eden_model::{Fault, Id, Kind, Name, Origin, Outside};
+use eden_model::{Fault, Id, Key, Kind, Name, ObjKind, Origin, Outside, TreeEntry};
+use eden_object::Object;
 use eden_overlay::{FilesFault, MemoryFiles, Overlay, StopFiles};
 use eden_tree::{Dir, Entry};
 use std::alloc::{Allocator, Global};
 use std::cell::Cell;
+use std::mem;
 use std::process::Abort;
 use std::rc::Rc;
 use test_samples::{ONE_FILE, Sample, TWO_FILES};
 
-/// The letters that stand for names: those of the sample commit.
+/// The letters that stand for names of the sample commit.
 pub(crate) const LETTERS: [u8; 3] = *b"abc";
-
-fn named(letter: u8) -> &'static [u8] {
-    match letter {
-        b'a' => b"bak",
-        b'b' => b"new.txt",
-        _ => b"test.txt",
-    }
-}
-
-fn names(rt: &impl Abort, alloc: Global, letters: &[u8]) -> Vec<Name> {
-    let mut names = Vec::new(alloc);
-    for letter in letters {
-        let name = name(rt, alloc, named(*letter));
-        names.push(name).expect(rt, "memory");
-    }
-    names
-}
-
-/// A path with one name more.
-pub(crate) fn below(rt: &impl Abort, alloc: Global, path: &[u8], letter: u8) -> Vec<u8> {
-    let mut below = Vec::from_slice(alloc, path).expect(rt, "memory");
-    below.push(letter).expect(rt, "memory");
-    below
-}
-
-/// A name in a directory.
-#[derive(Clone, Copy)]
-pub(crate) struct Place<'a> {
-    pub(crate) path: &'a [u8],
-    pub(crate) letter: u8,
-}
-
-/// The same in names.
-#[derive(Drop)]
-struct Spot {
-    path: Vec<Name>,
-    name: Name,
-}
-
-fn spot_of(rt: &impl Abort, alloc: Global, place: Place<'_>) -> Spot {
-    Spot {
-        path: names(rt, alloc, place.path),
-        name: name(rt, alloc, named(place.letter)),
-    }
-}
 
 /// The tree of that id, one of the sample commit's.
 fn tree_of(id: Id) -> Sample {
@@ -76,9 +34,27 @@ fn tree_of(id: Id) -> Sample {
     ONE_FILE
 }
 
-/// Whether a call was tried, and did what it should.
-fn is_done(answer: Option<Result<(), Fault>>) -> bool {
-    matches!(answer, Some(Ok(())))
+/// The entries of a tree among the samples.
+fn entries(rt: &impl Abort, alloc: Global, tree: Sample) -> Vec<TreeEntry>
+    ensures { NamesDiffer result.items }
+{
+    let key = Key {
+        kind: ObjKind::Tree,
+        id: tree.id,
+    };
+    let framed = tree.framed.to_vec(alloc).expect(rt, "memory");
+    let object = Object::checked(alloc, key, framed).expect(rt, "a tree");
+    let entries = object.entries(alloc).expect(rt, "memory");
+    drop(object);
+    entries
+}
+
+/// Where contents come from that are of this object, or the mount's own.
+pub(crate) fn origin_of(object: Option<Sample>) -> Origin {
+    match object {
+        Some(object) => Origin::Object(object.id),
+        None => Origin::Own,
+    }
 }
 
 /// What must stand under a name.
@@ -140,19 +116,14 @@ impl<A: Allocator> Question<A> for Lists<'_> {
     }
 }
 
-fn wanted_at(rt: &impl Abort, alloc: Global, tree: &Tree, path: &[u8], letter: u8) -> Wanted {
-    let below = below(rt, alloc, path, letter);
-    Wanted {
-        name: name(rt, alloc, named(letter)),
-        node: tree.get(&below),
-    }
-}
-
 /// What must stand under each name of the directory at a path.
 fn all_wanted(rt: &impl Abort, alloc: Global, tree: &Tree, path: &[u8]) -> Vec<Wanted> {
     let mut want = Vec::new(alloc);
     for letter in LETTERS {
-        let wanted = wanted_at(rt, alloc, tree, path, letter);
+        let wanted = Wanted {
+            name: name(rt, alloc, named(letter)),
+            node: tree.below(path, letter),
+        };
         want.push(wanted).expect(rt, "memory");
     }
     want
@@ -169,13 +140,51 @@ pub(crate) struct Mount<A: Allocator> {
     pub(crate) failures: u64,
 }
 
+/// A table over these files, with a root from there.
+fn table_over<A: Allocator + Clone>(
+    rt: &impl Abort,
+    alloc: Global,
+    dirs: &A,
+    calls: &Rc<Cell<u64>>,
+    files: MemoryFiles<Outside>,
+    root: Origin,
+    next: u64,
+) -> Inodes<A, Outside, StopFiles<MemoryFiles<Outside>>>
+    requires least { number_least ≤ next }
+    requires most { next ≤ number_end }
+{
+    let calls = calls.clone().expect(rt, "memory");
+    let overlay = Overlay::new(alloc, StopFiles::new(files, calls));
+    Inodes::new(dirs.clone().expect(rt, "a heap"), overlay, root, next)
+}
+
+/// The files under a new mount: none where its root is of an object, and else those of an own root without entries.
+fn files_under(rt: &impl Abort, alloc: Global, root: Origin) -> MemoryFiles<Outside> {
+    match root {
+        Origin::Object(_) => MemoryFiles::new(alloc),
+        Origin::Own | Origin::Empty => first_files(rt, alloc),
+    }
+}
+
+/// The number that a table gives next, within the limits of any.
+fn next_of<A: Allocator + Clone>(
+    rt: &impl Abort,
+    table: &Inodes<A, Outside, StopFiles<MemoryFiles<Outside>>>,
+) -> u64
+    ensures least { number_least ≤ result }
+    ensures most { result ≤ number_end }
+{
+    let next = table.next_number();
+    assert!(rt; 2 <= next && next <= 1 << 63);
+    next
+}
+
 impl<A: Allocator + Clone> Mount<A> {
-    /// Over these files, with a root from there. All calls pass.
+    /// A root from there, with nothing loaded. All calls on the files pass.
     pub(crate) fn open(
         rt: &impl Abort,
         alloc: Global,
-        dirs: A,
-        files: MemoryFiles<Outside>,
+        dirs: &A,
         root: Origin,
         next: u64,
     ) -> Mount<A>
@@ -183,36 +192,39 @@ impl<A: Allocator + Clone> Mount<A> {
         requires most { next ≤ number_end }
     {
         let calls = Rc::new(alloc, Cell::new(u64::MAX)).expect(rt, "memory");
-        let shared = calls.clone().expect(rt, "memory");
-        let overlay = Overlay::new(alloc, StopFiles::new(files, shared));
+        let files = files_under(rt, alloc, root);
+        let table = table_over(rt, alloc, dirs, &calls, files, root, next);
         Mount {
             alloc,
-            table: Inodes::new(dirs, overlay, root, next),
+            table,
             calls,
             failures: 0,
         }
     }
 
-    /// The same files under a new table.
-    pub(crate) fn open_again(self, rt: &impl Abort, dirs: A) -> Mount<A> {
-        let Mount {
-            alloc,
-            mut table,
-            failures,
-            ..
-        } = self;
-        let root = table.look(&[]).origin;
-        let next = table.next_number();
-        assert!(rt; 2 <= next && next <= 1 << 63);
-        let files = table.into_overlay().into_files();
-        let failures = failures.saturating_add(files.failures());
-        let mut mount = Mount::open(rt, alloc, dirs, files.into_files(), root, next);
-        mount.failures = failures;
-        mount
+    /// The files, which the table has no more.
+    fn take_files(&mut self, rt: &impl Abort, dirs: &A) -> MemoryFiles<Outside> {
+        let none = MemoryFiles::new(self.alloc);
+        let empty = table_over(rt, self.alloc, dirs, &self.calls, none, Origin::Own, 2);
+        let files = mem::replace(&mut self.table, empty)
+            .into_overlay()
+            .into_files();
+        self.failures = self.failures.saturating_add(files.failures());
+        files.into_files()
+    }
+
+    /// The same files under a new table. All calls pass.
+    pub(crate) fn open_again(&mut self, rt: &impl Abort, dirs: &A) {
+        let root = self.table.look(&[]).origin;
+        let next = next_of(rt, &self.table);
+        let files = self.take_files(rt, dirs);
+        let table = table_over(rt, self.alloc, dirs, &self.calls, files, root, next);
+        drop(mem::replace(&mut self.table, table));
+        self.calls.set(u64::MAX);
     }
 
     /// Loads what isn't loaded of the directories on a path: whether no load failed.
-    fn load(&mut self, rt: &impl Abort, path: &[Name]) -> bool {
+    pub(crate) fn load(&mut self, rt: &impl Abort, path: &[Name]) -> bool {
         for count in 0..=path.len() {
             if !self.load_one(rt, &path[..count]) {
                 return false;
@@ -224,36 +236,72 @@ impl<A: Allocator + Clone> Mount<A> {
     fn load_one(&mut self, rt: &impl Abort, path: &[Name]) -> bool {
         match self.table.unloaded(path) {
             None => true,
-            Some(Origin::Object(id)) => self.load_object(rt, path, id),
+            Some(Origin::Object(id)) => self.load_object(rt, path, id).is_ok(),
             Some(Origin::Own | Origin::Empty) => self.table.load(self.alloc, path, None).is_ok(),
         }
     }
 
-    /// Loads the directory of an object, with the numbers saved for it or from the commit's tree.
-    fn load_object(&mut self, rt: &impl Abort, path: &[Name], id: Id) -> bool
+    /// Loads the directory of an object, with the numbers saved for it or from the commit's tree: whether any are
+    /// saved.
+    pub(crate) fn load_object(
+        &mut self,
+        rt: &impl Abort,
+        path: &[Name],
+        id: Id,
+    ) -> Result<bool, Fault>
         requires { IsAt path.now self.old.table.root (origin.Object id) }
     {
         let entries = entries(rt, self.alloc, tree_of(id));
-        load_either(self.alloc, &mut self.table, path, &entries).is_ok()
+        let answer = self.load_either(path, &entries);
+        drop(entries);
+        answer
+    }
+
+    /// Loads the directory of an object, with the numbers that are saved for it or from these entries: whether any are
+    /// saved.
+    fn load_either(&mut self, path: &[Name], entries: &[TreeEntry]) -> Result<bool, Fault>
+        requires at { (i : id.Id) × IsAt path.now self.old.table.root (origin.Object i) }
+        requires differ { NamesDiffer entries.now }
+    {
+        let saved = match self.table.numbered(self.alloc, path) {
+            Ok(saved) => saved,
+            Err(fault) => return Err(fault),
+        };
+        let loaded = if saved {
+            self.table.load(self.alloc, path, None)
+        } else {
+            self.table.load(self.alloc, path, Some(entries))
+        };
+        match loaded {
+            Ok(()) => Ok(saved),
+            Err(fault) => Err(fault),
+        }
     }
 
     /// Whether the directory at a path shows what it must.
     pub(crate) fn shows_dir(&mut self, rt: &impl Abort, tree: &Tree, path: &[u8]) -> bool {
         let want = all_wanted(rt, self.alloc, tree, path);
         let path = names(rt, self.alloc, path);
-        let loaded = self.load(rt, &path);
-        let lists = Lists {
-            path: &path,
-            want: &want,
-        };
-        loaded && ask(&mut self.table, &lists)
+        let is_so = self.load(rt, &path) && self.lists(&path, &want);
+        drop(path);
+        drop(want);
+        is_so
+    }
+
+    fn lists(&mut self, path: &[Name], want: &[Wanted]) -> bool {
+        ask(&mut self.table, &Lists { path, want })
     }
 
     /// Whether the own file at a path shows that content.
     fn shows_file(&mut self, rt: &impl Abort, path: &[u8], content: u64) -> bool {
         let path = names(rt, self.alloc, path);
-        let loaded = self.load(rt, &path);
-        loaded && has_content(self.alloc, &mut self.table, &path, &content.to_be_bytes())
+        let is_so = self.load(rt, &path) && self.reads(&path, &content.to_be_bytes());
+        drop(path);
+        is_so
+    }
+
+    pub(crate) fn reads(&mut self, path: &[Name], content: &[u8]) -> bool {
+        has_content(self.alloc, &mut self.table, path, content)
     }
 
     fn shows(&mut self, rt: &impl Abort, tree: &Tree, path: &[u8], node: Node) -> bool {
@@ -274,28 +322,22 @@ impl<A: Allocator + Clone> Mount<A> {
     }
 
     /// The number of what stands at a path, which is loaded.
-    fn number(&mut self, rt: &impl Abort, path: &[u8]) -> u64 {
+    pub(crate) fn number(&mut self, rt: &impl Abort, path: &[u8]) -> u64 {
         let path = names(rt, self.alloc, path);
-        self.table.look(&path).number
-    }
-
-    /// The number of each node, all of which are shown.
-    pub(crate) fn numbers(&mut self, rt: &impl Abort, tree: &Tree) -> Vec<u64> {
-        let mut numbers = Vec::new(self.alloc);
-        for row in tree.rows() {
-            let number = self.number(rt, &row.path);
-            numbers.push(number).expect(rt, "memory");
-        }
-        numbers
+        let number = self.table.look(&path).number;
+        drop(path);
+        number
     }
 
     /// Whether the directory at a path is loaded and marked unsaved.
     pub(crate) fn is_unsaved(&self, rt: &impl Abort, path: &[u8]) -> bool {
         let path = names(rt, self.alloc, path);
-        match self.table.directory(&path) {
+        let is_so = match self.table.directory(&path) {
             None => false,
             Some(dir) => dir.unsaved(),
-        }
+        };
+        drop(path);
+        is_so
     }
 
     /// Whether any is.
@@ -312,6 +354,7 @@ impl<A: Allocator + Clone> Mount<A> {
     pub(crate) fn unload(&mut self, rt: &impl Abort, path: &[u8], age: u64) -> u64 {
         let path = names(rt, self.alloc, path);
         let gone = self.table.unload(self.alloc, &path, age);
+        drop(path);
         assert!(rt; gone.refused != Some(FilesFault::Memory));
         gone.count
     }
@@ -319,27 +362,30 @@ impl<A: Allocator + Clone> Mount<A> {
     /// Loads the directories on a path.
     pub(crate) fn load_all(&mut self, rt: &impl Abort, path: &[u8]) -> bool {
         let path = names(rt, self.alloc, path);
-        self.load(rt, &path)
+        let is_done = self.load(rt, &path);
+        drop(path);
+        is_done
     }
 
     /// Makes the directories along a path the mount's own: whether that was done.
     pub(crate) fn own(&mut self, rt: &impl Abort, path: &[u8]) -> bool {
         let path = names(rt, self.alloc, path);
-        self.load(rt, &path) && is_done(own(self.alloc, &mut self.table, &path))
+        let is_done = self.load(rt, &path) && own(self.alloc, &mut self.table, &path);
+        drop(path);
+        is_done
     }
 
-    /// Puts an entry under the name of a spot, or takes it out: whether that was done.
-    fn put_or_take(&mut self, spot: &Spot, own: Option<Own>) -> bool {
-        match own {
-            Some(own) => is_done(put(self.alloc, &mut self.table, &spot.path, &spot.name, own)),
-            None => is_done(take(self.alloc, &mut self.table, &spot.path, &spot.name)),
-        }
-    }
-
-    /// Puts an entry under a name, or takes it out: whether that was done.
-    pub(crate) fn change(&mut self, rt: &impl Abort, place: Place<'_>, own: Option<Own>) -> bool {
+    /// Changes what stands under a name: whether that was done. What is below an entry that goes with its file is
+    /// unloaded before.
+    pub(crate) fn change(&mut self, rt: &impl Abort, place: Place<'_>, what: What) -> bool {
         let spot = spot_of(rt, self.alloc, place);
-        self.load(rt, &spot.path) && self.put_or_take(&spot, own)
+        let loaded = self.load(rt, &spot.path);
+        if matches!(what, What::Remove) {
+            self.unload_below(rt, place);
+        }
+        let is_done = loaded && change_at(self.alloc, &mut self.table, &spot, what);
+        drop(spot);
+        is_done
     }
 
     /// Stores a file, or a directory without entries: whether that was done.
@@ -362,7 +408,7 @@ impl<A: Allocator + Clone> Mount<A> {
     ) -> Option<Node> {
         let number = self.table.give_number()?;
         let own = Own { kind, number };
-        if !self.store(own, content) || !self.change(rt, place, Some(own)) {
+        if !self.store(own, content) || !self.change(rt, place, What::Put(own)) {
             return None;
         }
         Some(Node {
@@ -377,33 +423,16 @@ impl<A: Allocator + Clone> Mount<A> {
     pub(crate) fn unload_below(&mut self, rt: &impl Abort, place: Place<'_>) {
         let below = below(rt, self.alloc, place.path, place.letter);
         self.unload(rt, &below, 0);
-    }
-
-    /// Removes the entry of a name with what is below it: whether that was done.
-    pub(crate) fn remove(&mut self, rt: &impl Abort, place: Place<'_>) -> bool {
-        let spot = spot_of(rt, self.alloc, place);
-        let loaded = self.load(rt, &spot.path);
-        self.unload_below(rt, place);
-        loaded && is_done(remove(self.alloc, &mut self.table, &spot.path, &spot.name))
-    }
-
-    /// Gives a file another kind: whether that was done.
-    pub(crate) fn turn_into(&mut self, rt: &impl Abort, place: Place<'_>, kind: Kind) -> bool {
-        let spot = spot_of(rt, self.alloc, place);
-        let loaded = self.load(rt, &spot.path);
-        loaded && is_done(turn_into(self.alloc, &mut self.table, &spot.path, &spot.name, kind))
+        drop(below);
     }
 
     /// Moves an entry between directories that are the mount's own and loaded: whether that was done.
     pub(crate) fn rename(&mut self, rt: &impl Abort, from: Place<'_>, to: Place<'_>) -> bool {
         let from = spot_of(rt, self.alloc, from);
         let to = spot_of(rt, self.alloc, to);
-        let entry = Move {
-            from: &from.path,
-            name: &from.name,
-            to: &to.path,
-            new_name: &to.name,
-        };
-        is_done(rename(self.alloc, &mut self.table, &entry))
+        let is_done = move_to(self.alloc, &mut self.table, &from, &to);
+        drop(from);
+        drop(to);
+        is_done
     }
 }

@@ -1,73 +1,88 @@
 //! Numbers that are saved as directories of the commit go: what is written, and what stays loaded if that is refused.
 
-use crate::inodes::BAK_TEST;
-use crate::mount::Mount;
-use crate::names::names;
-use eden_model::Origin;
-use eden_overlay::MemoryFiles;
-use std::alloc::Global;
-use std::process::Abort;
+use crate::names::{BAK_TEST, ROOT};
+use crate::worked::{Does, Step, check};
 use test_samples::TWO_FILES;
 
-/// The commit, with both of its directories loaded: the entries have the numbers 2 to 5.
-fn start(rt: &impl Abort, alloc: Global) -> Mount<Global> {
-    let files = MemoryFiles::new(alloc);
-    let mut mount = Mount::open(rt, alloc, alloc, files, Origin::Object(TWO_FILES.id), 2);
-    assert!(rt; shows_numbers(rt, &mut mount));
-    mount
-}
-
-/// Whether the inner directory's file has number 5, with all loaded, and no further number was given.
-fn shows_numbers(rt: &impl Abort, mount: &mut Mount<Global>) -> bool {
-    let path = names(rt, mount.alloc, BAK_TEST);
-    mount.load_all(rt, b"a")
-        && mount.table.look(&path).number == 5
-        && mount.table.next_number() == 6
-}
-
-/// Unloads all: how many calls on the files that makes.
-fn calls(rt: &impl Abort, mount: &mut Mount<Global>) -> u64 {
-    mount.calls.set(100);
-    assert!(rt; mount.unload(rt, &[], 0) == 2);
-    let left = mount.calls.get();
-    mount.calls.set(u64::MAX);
-    100u64.saturating_sub(left)
-}
+/// With both directories of the commit loaded, the entries have the numbers 2 to 5.
+const NUMBERED: Step = (BAK_TEST, Does::Numbered(5, 6));
 
 /// The file of each directory is read, and at first stored.
+const WRITTEN_ONCE: &[Step] = &[
+    NUMBERED,
+    (ROOT, Does::Pass(100)),
+    (ROOT, Does::Unload(0, 2)),
+    (ROOT, Does::Left(96)),
+    (ROOT, Does::Pass(u64::MAX)),
+    NUMBERED,
+    (ROOT, Does::Pass(100)),
+    (ROOT, Does::Unload(0, 2)),
+    (ROOT, Does::Left(98)),
+    (ROOT, Does::Pass(u64::MAX)),
+    NUMBERED,
+];
+
 #[test]
 fn numbers_that_are_saved_are_not_written_again(rt: HostRuntime) {
-    let mut mount = start(&rt, rt.alloc());
-    assert!(rt; calls(&rt, &mut mount) == 4);
-    assert!(rt; shows_numbers(&rt, &mut mount));
-    assert!(rt; calls(&rt, &mut mount) == 2);
-    assert!(rt; shows_numbers(&rt, &mut mount));
+    check(&rt, rt.alloc(), Some(TWO_FILES), 2, WRITTEN_ONCE);
 }
 
-/// How many calls on the files pass, and how many directories go then.
-const STOPS: &[(u64, u64)] = &[(0, 0), (1, 0), (2, 1), (3, 1), (4, 2)];
-
-/// Unloads all over a device that stops. What went and what stayed shows its numbers once the device works again.
-fn check_stop(rt: &impl Abort, alloc: Global, allowed: u64, went: u64) {
-    let mut mount = start(rt, alloc);
-    mount.calls.set(allowed);
-    assert!(rt; mount.unload(rt, &[], 0) == went, "{allowed} calls");
-    mount.calls.set(u64::MAX);
-    assert!(rt; shows_numbers(rt, &mut mount), "{allowed} calls");
-}
+/// All is unloaded over a device that stops after so many calls, and so many directories go. What went and what stayed
+/// shows its numbers once the device works again.
+const STOPS: &[&[Step]] = &[
+    &[
+        NUMBERED,
+        (ROOT, Does::Pass(0)),
+        (ROOT, Does::Unload(0, 0)),
+        (ROOT, Does::Pass(u64::MAX)),
+        NUMBERED,
+    ],
+    &[
+        NUMBERED,
+        (ROOT, Does::Pass(1)),
+        (ROOT, Does::Unload(0, 0)),
+        (ROOT, Does::Pass(u64::MAX)),
+        NUMBERED,
+    ],
+    &[
+        NUMBERED,
+        (ROOT, Does::Pass(2)),
+        (ROOT, Does::Unload(0, 1)),
+        (ROOT, Does::Pass(u64::MAX)),
+        NUMBERED,
+    ],
+    &[
+        NUMBERED,
+        (ROOT, Does::Pass(3)),
+        (ROOT, Does::Unload(0, 1)),
+        (ROOT, Does::Pass(u64::MAX)),
+        NUMBERED,
+    ],
+    &[
+        NUMBERED,
+        (ROOT, Does::Pass(4)),
+        (ROOT, Does::Unload(0, 2)),
+        (ROOT, Does::Pass(u64::MAX)),
+        NUMBERED,
+    ],
+];
 
 #[test]
 fn a_directory_whose_numbers_are_not_saved_stays_loaded(rt: HostRuntime) {
-    for (allowed, went) in STOPS {
-        check_stop(&rt, rt.alloc(), *allowed, *went);
+    for steps in STOPS {
+        check(&rt, rt.alloc(), Some(TWO_FILES), 2, steps);
     }
 }
 
 /// The files of a mount that unloaded all have its numbers.
+const OPENED_AGAIN: &[Step] = &[
+    NUMBERED,
+    (ROOT, Does::Unload(0, 2)),
+    (ROOT, Does::OpenAgain),
+    NUMBERED,
+];
+
 #[test]
 fn a_new_table_has_the_numbers(rt: HostRuntime) {
-    let mut mount = start(&rt, rt.alloc());
-    assert!(rt; mount.unload(&rt, &[], 0) == 2);
-    let mut again = mount.open_again(&rt, rt.alloc());
-    assert!(rt; shows_numbers(&rt, &mut again));
+    check(&rt, rt.alloc(), Some(TWO_FILES), 2, OPENED_AGAIN);
 }

@@ -1,17 +1,21 @@
 //! A move from one directory to another over files that stop after some of its calls.
 
-use crate::listing::first_files;
-use crate::mount::{Mount, Place};
-use crate::tree::{Node, Tree};
+use crate::mount::Mount;
+use crate::names::Place;
+use crate::pair::Pair;
+use crate::stored::{Stored, is_stored};
 use eden_model::{Kind, Origin};
 use std::alloc::Global;
 use std::process::Abort;
 
-const ROOT: Node = Node {
-    kind: Kind::Dir,
-    origin: Origin::Own,
-    number: 1,
-    content: 0,
+const DIR_A: Place<'static> = Place {
+    path: b"",
+    letter: b'a',
+};
+
+const DIR_B: Place<'static> = Place {
+    path: b"",
+    letter: b'b',
 };
 
 const FROM: Place<'static> = Place {
@@ -23,10 +27,6 @@ const TO: Place<'static> = Place {
     path: b"b",
     letter: b'c',
 };
-
-const FROM_PATH: &[u8] = b"ac";
-
-const TO_PATH: &[u8] = b"bc";
 
 /// What a move does over files that stop after so many calls.
 #[derive(Clone, Copy)]
@@ -72,57 +72,39 @@ const ROWS: &[Row] = &[
     },
 ];
 
-/// A mount, and what it must show.
-#[derive(Drop)]
-struct Pair {
-    mount: Mount<Global>,
-    tree: Tree,
+/// The files that are left, and that of what was replaced beside them.
+const FILES: &[u64] = &[1, 2, 3, 4];
+
+const ALL_FILES: &[u64] = &[1, 2, 3, 4, 5];
+
+/// What follows the move.
+#[derive(Clone, Copy, PartialEq, Eq)]
+enum Then {
+    /// All is unloaded, and the files are compared.
+    Unloaded,
+    /// The same, where the file takes the place of another.
+    UnloadedOver,
+    /// The files alone show what they must.
+    Opened,
 }
 
-/// Puts a node in, in both.
-fn add(rt: &impl Abort, pair: &mut Pair, place: Place<'_>, path: &[u8], kind: Kind) {
-    let node = pair.mount.insert(rt, place, kind, 7);
-    pair.tree
-        .put(rt, pair.mount.alloc, path, node.expect(rt, "a new node"));
-}
-
-/// A root without entries.
-fn empty(rt: &impl Abort, alloc: Global) -> Pair {
-    let files = first_files(alloc).expect(rt, "files");
-    let mut tree = Tree::new(alloc);
-    tree.put(rt, alloc, &[], ROOT);
-    Pair {
-        mount: Mount::open(rt, alloc, alloc, files, Origin::Own, 2),
-        tree,
-    }
-}
+const EACH: &[Then] = &[Then::Unloaded, Then::UnloadedOver, Then::Opened];
 
 /// Two directories, numbers 2 and 3, and a file in the first, number 4; where it is to take the place of another, that
 /// has number 5. All directories are loaded.
-fn start(rt: &impl Abort, alloc: Global, is_over: bool) -> Pair {
-    let mut pair = empty(rt, alloc);
-    for letter in *b"ab" {
-        let place = Place { path: &[], letter };
-        add(rt, &mut pair, place, &[letter], Kind::Dir);
-    }
-    add(rt, &mut pair, FROM, FROM_PATH, Kind::File);
-    if is_over {
-        add(rt, &mut pair, TO, TO_PATH, Kind::File);
-    }
-    assert!(rt; shows(rt, &mut pair));
-    pair
-}
-
-/// Whether all shows what it must.
-fn shows(rt: &impl Abort, pair: &mut Pair) -> bool {
-    pair.mount.shows_all(rt, &pair.tree)
+fn start(rt: &impl Abort, pair: &mut Pair<Global>, is_over: bool) -> bool {
+    pair.insert(rt, DIR_A, Kind::Dir, 7)
+        && pair.insert(rt, DIR_B, Kind::Dir, 7)
+        && pair.insert(rt, FROM, Kind::File, 7)
+        && (!is_over || pair.insert(rt, TO, Kind::File, 7))
+        && pair.shows(rt)
 }
 
 /// Moves the file over files that stop after so many calls: whether that was done.
-fn moves(rt: &impl Abort, mount: &mut Mount<Global>, calls: u64) -> bool {
-    mount.calls.set(calls);
-    let moved = mount.rename(rt, FROM, TO);
-    mount.calls.set(u64::MAX);
+fn moves(rt: &impl Abort, pair: &mut Pair<Global>, calls: u64) -> bool {
+    pair.mount.calls.set(calls);
+    let moved = pair.rename(rt, FROM, TO);
+    pair.mount.calls.set(u64::MAX);
     moved
 }
 
@@ -134,14 +116,16 @@ fn marks(rt: &impl Abort, mount: &Mount<Global>, is_marked: bool) -> bool {
 }
 
 /// Moves the file over files that stop. Then all shows what it must, and the first directory is marked or isn't.
-fn move_file(rt: &impl Abort, pair: &mut Pair, row: Row) {
-    let is_done = moves(rt, &mut pair.mount, row.calls);
-    assert!(rt; is_done == row.is_done);
-    if is_done {
-        pair.tree.rename(rt, pair.mount.alloc, FROM_PATH, TO_PATH);
+fn check_move(rt: &impl Abort, pair: &mut Pair<Global>, row: Row) {
+    assert!(rt; moves(rt, pair, row.calls) == row.is_done);
+    assert!(rt; pair.shows(rt) && marks(rt, &pair.mount, row.is_marked));
+}
+
+/// Many turns go by.
+fn grow_old(mount: &mut Mount<Global>) {
+    for _ in 0..200 {
+        mount.table.tick();
     }
-    assert!(rt; shows(rt, pair));
-    assert!(rt; marks(rt, &pair.mount, row.is_marked));
 }
 
 /// Unloads all that can be over files that stop after so many calls: how many directories went.
@@ -152,60 +136,66 @@ fn unload_over(rt: &impl Abort, mount: &mut Mount<Global>, calls: u64) -> u64 {
 
 /// Unloads all that can be while the device has stopped, and then the rest. An unsaved directory stays loaded till it
 /// is stored.
-fn unload(rt: &impl Abort, mount: &mut Mount<Global>, row: Row) {
-    assert!(rt; unload_over(rt, mount, 0) == row.unloaded[0]);
-    assert!(rt; mount.is_unsaved(rt, b"a") == row.is_marked);
-    assert!(rt; unload_over(rt, mount, u64::MAX) == row.unloaded[1]);
-    assert!(rt; !mount.table.look(&[]).loaded);
+fn check_unload(rt: &impl Abort, mount: &mut Mount<Global>, row: Row) {
+    assert!(rt;
+        unload_over(rt, mount, 0) == row.unloaded[0] && mount.is_unsaved(rt, b"a") == row.is_marked
+    );
+    assert!(rt;
+        unload_over(rt, mount, u64::MAX) == row.unloaded[1] && !mount.table.look(&[]).loaded
+    );
 }
 
-/// Many turns go by.
-fn grow_old(mount: &mut Mount<Global>) {
-    for _ in 0..200 {
-        mount.table.tick();
-    }
-}
-
-/// The move, and late in a long life what is left of it, by its numbers.
-fn files_after(rt: &impl Abort, alloc: Global, row: Row, is_over: bool) -> Vec<u64> {
-    let mut pair = start(rt, alloc, is_over);
-    move_file(rt, &mut pair, row);
+/// Late in a long life what is left of the move is unloaded. The files that are left are those.
+fn check_files(rt: &impl Abort, pair: &mut Pair<Global>, row: Row, is_over: bool) {
     grow_old(&mut pair.mount);
-    unload(rt, &mut pair.mount, row);
-    assert!(rt; shows(rt, &mut pair));
-    let mount = pair.mount;
-    let files = mount.table.into_overlay().list(alloc);
-    files.expect(rt, "a list")
-}
-
-/// The move, and then unloading. The files that are left are those.
-fn stop(rt: &impl Abort, alloc: Global, row: Row, is_over: bool) {
-    let files = files_after(rt, alloc, row, is_over);
-    let want: &[u64] = if is_over && row.is_left {
-        &[1, 2, 3, 4, 5]
+    check_unload(rt, &mut pair.mount, row);
+    assert!(rt; pair.shows(rt));
+    let want = if is_over && row.is_left {
+        ALL_FILES
     } else {
-        &[1, 2, 3, 4]
+        FILES
     };
-    assert!(rt; files.as_slice() == want);
+    assert!(rt;
+        is_stored(
+            pair.mount.alloc,
+            &mut pair.mount.table,
+            Stored::Numbers(want)
+        )
+    );
 }
 
-/// The move, and then the files alone: of a move whose first store alone was done they lack the entry.
-fn stop_and_open(rt: &impl Abort, alloc: Global, row: Row) {
-    let mut pair = start(rt, alloc, false);
-    move_file(rt, &mut pair, row);
+/// The files alone: of a move whose first store alone was done they lack the entry.
+fn check_opened(rt: &impl Abort, pair: &mut Pair<Global>, row: Row) {
     if row.is_marked {
-        pair.tree.take(FROM_PATH);
+        pair.tree.take(b"ac");
     }
-    let Pair { mount, tree } = pair;
-    let mut again = mount.open_again(rt, alloc);
-    assert!(rt; again.shows_all(rt, &tree));
+    let alloc = pair.mount.alloc;
+    pair.mount.open_again(rt, &alloc);
+    assert!(rt; pair.shows(rt));
+}
+
+/// The move, and what follows.
+fn check_stop(rt: &impl Abort, pair: &mut Pair<Global>, row: Row, then: Then) {
+    let is_over = then == Then::UnloadedOver;
+    assert!(rt; start(rt, pair, is_over));
+    check_move(rt, pair, row);
+    match then {
+        Then::Unloaded | Then::UnloadedOver => check_files(rt, pair, row, is_over),
+        Then::Opened => check_opened(rt, pair, row),
+    }
+}
+
+fn check_row(rt: &impl Abort, alloc: Global, row: Row, then: Then) {
+    let mut pair = Pair::open(rt, alloc, &alloc, Origin::Own, &[]);
+    check_stop(rt, &mut pair, row, then);
+    drop(pair);
 }
 
 #[test]
 fn a_move_whose_stores_fail_shows_as_before(rt: HostRuntime) {
     for row in ROWS {
-        stop(&rt, rt.alloc(), *row, false);
-        stop(&rt, rt.alloc(), *row, true);
-        stop_and_open(&rt, rt.alloc(), *row);
+        for then in EACH {
+            check_row(&rt, rt.alloc(), *row, *then);
+        }
     }
 }

@@ -1,60 +1,52 @@
 //! Looks by positions that were noted, and the count of changes.
 
-use crate::calls::{fill, own, remove, turn_into};
-use crate::inodes::{BAK, BAK_TEST, load, table};
-use crate::names::{name, names};
-use eden_inode::Trail;
+use crate::calls::What;
+use crate::names::{BAK, BAK_TEST, ROOT};
+use crate::worked::{Does, Step, check};
 use eden_model::Kind;
-use test_samples::{ONE_FILE, TWO_FILES};
+use test_samples::{ONE_FILE, TWO_FILES, VERSION_1};
 
 /// The first look compares two of the root's three names at most, and then the directory's only one; the second none.
+const BY_POSITIONS: &[Step] = &[
+    (ROOT, Does::Load(TWO_FILES)),
+    (BAK, Does::Load(ONE_FILE)),
+    (BAK_TEST, Does::LookTwice),
+];
+
 #[test]
 fn a_look_by_positions_compares_no_name(rt: HostRuntime) {
-    let alloc = rt.alloc();
-    let path = names(&rt, alloc, BAK_TEST);
-    let path = path.as_slice();
-    let above = names(&rt, alloc, BAK);
-    let mut table = table(alloc, TWO_FILES, 2);
-    assert!(rt; load(&rt, alloc, &mut table, &[], TWO_FILES).is_ok());
-    assert!(rt; load(&rt, alloc, &mut table, above.as_slice(), ONE_FILE).is_ok());
-    let mut trail = Trail::new();
-    let seen = table.look_along(path, &mut trail);
-    assert!(rt; seen.names == 2 && seen.number == 5 && trail.depth() == 2);
-    assert!(rt; 2 <= trail.compared() && trail.compared() <= 3);
-    trail.recount();
-    assert!(rt; table.look_along(path, &mut trail) == seen && trail.compared() == 0);
+    check(&rt, rt.alloc(), Some(TWO_FILES), 2, BY_POSITIONS);
 }
 
 /// Loads and looks count as no change, and each directory that goes counts as one.
+const UNLOADED: &[Step] = &[
+    (ROOT, Does::Load(TWO_FILES)),
+    (BAK, Does::Load(ONE_FILE)),
+    (BAK_TEST, Does::Look(5, Kind::File, Some(VERSION_1))),
+    (ROOT, Does::Changes(0)),
+    (ROOT, Does::Unload(0, 2)),
+    (ROOT, Does::Changes(2)),
+];
+
 #[test]
 fn each_unloaded_directory_is_a_change(rt: HostRuntime) {
-    let alloc = rt.alloc();
-    let path = names(&rt, alloc, BAK_TEST);
-    let path = path.as_slice();
-    let above = names(&rt, alloc, BAK);
-    let mut table = table(alloc, TWO_FILES, 2);
-    assert!(rt; load(&rt, alloc, &mut table, &[], TWO_FILES).is_ok());
-    assert!(rt; load(&rt, alloc, &mut table, above.as_slice(), ONE_FILE).is_ok());
-    table.look(path);
-    assert!(rt; table.changes() == 0);
-    assert!(rt; table.unload(alloc, &[], 0).count == 2 && table.changes() == 2);
+    check(&rt, rt.alloc(), Some(TWO_FILES), 2, UNLOADED);
 }
 
 /// A file that becomes executable, one that gets a content and directories that become the mount's own move no name. A
 /// file that goes is a change.
+const COUNTED: &[Step] = &[
+    (ROOT, Does::Load(TWO_FILES)),
+    (BAK, Does::Load(ONE_FILE)),
+    (ROOT, Does::At(b'c', What::Turn(Kind::Exec))),
+    (ROOT, Does::At(b'c', What::Fill(b"version 3\n"))),
+    (BAK, Does::Own),
+    (ROOT, Does::Changes(0)),
+    (BAK, Does::At(b'c', What::Remove)),
+    (ROOT, Does::Changes(1)),
+];
+
 #[test]
 fn what_moves_no_name_is_no_change(rt: HostRuntime) {
-    let alloc = rt.alloc();
-    let above = names(&rt, alloc, BAK);
-    let above = above.as_slice();
-    let file = name(&rt, alloc, b"test.txt");
-    let mut table = table(alloc, TWO_FILES, 2);
-    assert!(rt; load(&rt, alloc, &mut table, &[], TWO_FILES).is_ok());
-    assert!(rt; load(&rt, alloc, &mut table, above, ONE_FILE).is_ok());
-    assert!(rt; turn_into(alloc, &mut table, &[], &file, Kind::Exec) == Some(Ok(())));
-    assert!(rt; fill(alloc, &mut table, &[], &file, b"version 3\n") == Some(Ok(())));
-    assert!(rt; own(alloc, &mut table, above) == Some(Ok(())));
-    assert!(rt; table.changes() == 0);
-    assert!(rt; remove(alloc, &mut table, above, &file) == Some(Ok(())));
-    assert!(rt; table.changes() == 1);
+    check(&rt, rt.alloc(), Some(TWO_FILES), 2, COUNTED);
 }

@@ -2,6 +2,7 @@
 
 use eden_model::{Kind, Origin};
 use std::alloc::Global;
+use std::mem;
 use std::process::Abort;
 
 /// A directory, a file or a link, and where its contents come from; the content of an own file. Its number is 0 if that
@@ -14,6 +15,14 @@ pub(crate) struct Node {
     pub(crate) content: u64,
 }
 
+/// The root of every map.
+const ROOT: Node = Node {
+    kind: Kind::Dir,
+    origin: Origin::Own,
+    number: 1,
+    content: 0,
+};
+
 /// A node at its path.
 #[derive(Drop)]
 pub(crate) struct Row {
@@ -24,30 +33,44 @@ pub(crate) struct Row {
 /// The nodes by their paths: each name is one letter.
 #[derive(Drop)]
 pub(crate) struct Tree {
-    rows: Vec<Row>,
+    pub(crate) rows: Vec<Row>,
 }
 
-fn path_of(rt: &impl Abort, alloc: Global, letters: &[u8]) -> Vec<u8> {
-    Vec::from_slice(alloc, letters).expect(rt, "memory")
-}
-
-/// A path, with one front in another's place where it begins so.
-fn moved(rt: &impl Abort, alloc: Global, path: &[u8], from: &[u8], to: &[u8]) -> Vec<u8> {
-    if !path.starts_with(from) {
-        return path_of(rt, alloc, path);
+/// Whether that letter leads from the one path to the other.
+fn is_below(below: &[u8], path: &[u8], letter: u8) -> bool {
+    match below.split_last() {
+        Some((last, front)) => *last == letter && front == path,
+        None => false,
     }
-    let mut moved = path_of(rt, alloc, to);
+}
+
+/// A path that begins with one front, with another in its place.
+fn moved(rt: &impl Abort, alloc: Global, path: &[u8], from: &[u8], to: &[u8]) -> Option<Vec<u8>> {
+    if !path.starts_with(from) {
+        return None;
+    }
+    let mut moved = Vec::from_slice(alloc, to).expect(rt, "memory");
     moved
         .extend_from_slice(&path[from.len()..])
         .expect(rt, "memory");
-    moved
+    Some(moved)
+}
+
+/// Has a row begin with another front, where it begins with this one.
+fn move_row(rt: &impl Abort, alloc: Global, row: &mut Row, from: &[u8], to: &[u8]) {
+    if let Some(path) = moved(rt, alloc, &row.path, from, to) {
+        drop(mem::replace(&mut row.path, path));
+    }
 }
 
 impl Tree {
-    pub(crate) fn new(alloc: Global) -> Tree {
-        Tree {
+    /// The root alone.
+    pub(crate) fn new(rt: &impl Abort, alloc: Global) -> Tree {
+        let mut tree = Tree {
             rows: Vec::new(alloc),
-        }
+        };
+        tree.put(rt, alloc, &[], ROOT);
+        tree
     }
 
     pub(crate) fn rows(&self) -> &[Row] {
@@ -63,19 +86,20 @@ impl Tree {
         None
     }
 
+    /// What stands under a letter of the directory at a path.
+    pub(crate) fn below(&self, path: &[u8], letter: u8) -> Option<Node> {
+        for row in &self.rows {
+            if is_below(&row.path, path, letter) {
+                return Some(row.node);
+            }
+        }
+        None
+    }
+
     pub(crate) fn is_dir(&self, path: &[u8]) -> bool {
         match self.get(path) {
             None => false,
             Some(node) => node.kind == Kind::Dir,
-        }
-    }
-
-    /// Notes the number of each node, in their order.
-    pub(crate) fn note(&mut self, numbers: &[u64]) {
-        for (i, number) in numbers.iter().enumerate() {
-            if let Some(row) = self.rows.get_mut(i) {
-                row.node.number = *number;
-            }
         }
     }
 
@@ -98,19 +122,24 @@ impl Tree {
     /// Puts a node at a path, in place of what stands at and below it.
     pub(crate) fn put(&mut self, rt: &impl Abort, alloc: Global, path: &[u8], node: Node) {
         self.take(path);
-        let path = path_of(rt, alloc, path);
+        let path = Vec::from_slice(alloc, path).expect(rt, "memory");
         self.rows.push(Row { path, node }).expect(rt, "memory");
+    }
+
+    /// Gives the node at a path another kind.
+    pub(crate) fn turn(&mut self, rt: &impl Abort, alloc: Global, path: &[u8], kind: Kind) {
+        if let Some(node) = self.get(path) {
+            self.put(rt, alloc, path, Node { kind, ..node });
+        }
     }
 
     /// Moves what stands at and below a path, in place of what stands at and below another.
     pub(crate) fn rename(&mut self, rt: &impl Abort, alloc: Global, from: &[u8], to: &[u8]) {
         self.take(to);
-        let mut rows = Vec::new(alloc);
-        for row in &self.rows {
-            let path = moved(rt, alloc, &row.path, from, to);
-            let node = row.node;
-            rows.push(Row { path, node }).expect(rt, "memory");
+        for i in 0..self.rows.len() {
+            if let Some(row) = self.rows.get_mut(i) {
+                move_row(rt, alloc, row, from, to);
+            }
         }
-        self.rows = rows;
     }
 }

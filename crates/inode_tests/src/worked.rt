@@ -1,68 +1,77 @@
-//! Changes of a table over files in memory: rows of the sample commit's trees, with the files that they leave.
+//! Calls of a table over files in memory, and what it shows and leaves: rows of the sample commit's trees.
 
-use crate::calls::{Move, fill, own, remove, rename, turn_into};
-use crate::inodes::{BAK, BAK_TEST, Names, ROOT, TEST, Table, load, load_tree, shows, table};
-use crate::listing::{Own, put, store};
-use crate::names::{name, names};
-use eden_model::{Fault, Kind, Name, Origin, Outside};
-use eden_overlay::{Files, MemoryFiles};
+ghost use Rattle.std.specs.Prelude.{◌≤◌};
+ghost use Rattle.eden_model.specs.Limits.{number_least, number_end};
+
+use crate::calls::{What, change_at, move_to, own};
+use crate::listing::{Own, store};
+use crate::mount::{Mount, origin_of};
+use crate::names::{BAK, BAK_TEST, Letters, Place, ROOT, TEST, names, spot_of};
+use crate::stored::{Stored, is_stored};
+use eden_inode::Trail;
+use eden_model::{Fault, Kind, Name, Origin};
+use eden_overlay::FilesFault;
 use std::alloc::Global;
 use std::process::Abort;
 use test_samples::{ONE_FILE, Sample, TWO_FILES, VERSION_1, VERSION_2};
 
-/// A directory's path, and a name in it.
-type Place = (Names, &'static [u8]);
+const IN_D: Letters = b"d";
 
-const IN_D: Names = &[b"d"];
+const MOVED: Letters = b"dt";
 
-const MOVED: Names = &[b"d", b"t"];
+const IN_D_TEST: Letters = b"dc";
 
-const IN_D_TEST: Names = &[b"d", b"test.txt"];
+const LINK: Letters = b"l";
 
-const LINK: Names = &[b"l"];
-
-/// Files by their numbers, each with its size in bytes.
-type Sizes = &'static [(u64, usize)];
-
-/// A change of a table.
+/// What is done at a path, and what it answers or what is seen there then.
 #[derive(Clone, Copy)]
-enum Change {
-    /// The directories along a path become the mount's own.
-    Own(Names),
-    /// What stands at one place is changed.
-    At(Place, What),
-    Move(Place, Place),
-}
-
-#[derive(Clone, Copy)]
-enum What {
-    /// A file has another kind.
-    Turn(Kind),
-    /// A file has this content.
-    Fill(&'static [u8]),
-    Remove,
-    /// An own entry comes, with this number: a content, or a directory without entries.
-    Put(Own, Option<&'static [u8]>),
-}
-
-#[derive(Clone, Copy)]
-enum Step {
+pub(crate) enum Does {
     /// A directory is loaded from a tree object, or with the numbers saved for it, or without a tree object.
-    Load(Names, Sample),
-    LoadSaved(Names, Sample),
-    LoadOwn(Names),
-    /// All directories at and below a path go.
-    Unload(Names),
-    /// So many numbers are given.
-    Give(u64),
-    Done(Change),
-    /// At the path stands this kind of entry, with this number and that object, or contents of the mount's own.
-    Look(Names, u64, Kind, Option<Sample>),
-    /// Nothing stands at the path.
-    Gone(Names),
+    Load(Sample),
+    LoadSaved(Sample),
+    LoadOwn,
+    /// There are no numbers for the entries of that tree.
+    RunOut(Sample),
+    /// The directories along the path become the mount's own.
+    Own,
+    /// What stands under a letter is changed.
+    At(u8, What),
+    /// An own entry comes under a letter: a content, or a directory without entries.
+    Put(u8, Own, Option<&'static [u8]>),
+    /// What stands under a letter moves into the directory at another path, under that letter.
+    Move(u8, Letters, u8),
+    /// Of the directories at and below the path that are so old this many go.
+    Unload(u64, u64),
+    Tick,
+    /// So many calls on the files still pass.
+    Pass(u64),
+    /// .. are left.
+    Left(u64),
+    /// The same files come under a new table.
+    OpenAgain,
+    /// That number is given, or none.
+    Give(Option<u64>),
+    /// That number is the next one.
+    Next(u64),
+    /// So many changes were counted.
+    Changes(u64),
+    /// This kind of entry stands there, with this number and that object, or contents of the mount's own.
+    Look(u64, Kind, Option<Sample>),
+    /// The entry that stands there, number 5 below one directory, is found by names, and then by positions alone.
+    LookTwice,
+    /// With all directories above loaded this number stands there, and that one is the next.
+    Numbered(u64, u64),
+    /// Nothing stands there.
+    Gone,
+    /// An own file stands there, with this content.
+    Reads(&'static [u8]),
     /// These are the files, each with its size in bytes.
-    Files(Sizes),
+    Files(&'static [(u64, u64)]),
+    Stored(Stored),
 }
+
+/// A path, and what is done there.
+pub(crate) type Step = (Letters, Does);
 
 const FILE_2: Own = Own {
     kind: Kind::File,
@@ -84,149 +93,149 @@ const WRITTEN: &[u8] = b"version 1\n\0\0!";
 
 /// A file of the commit becomes executable, and has its number and its object still.
 const TURNED: &[Step] = &[
-    Step::Load(ROOT, ONE_FILE),
-    Step::Done(Change::At((ROOT, b"test.txt"), What::Turn(Kind::Exec))),
-    Step::Look(TEST, 2, Kind::Exec, Some(VERSION_1)),
-    Step::Files(&[(1, 107)]),
+    (ROOT, Does::Load(ONE_FILE)),
+    (ROOT, Does::At(b'c', What::Turn(Kind::Exec))),
+    (TEST, Does::Look(2, Kind::Exec, Some(VERSION_1))),
+    (ROOT, Does::Files(&[(1, 107)])),
 ];
 
 /// A file of the commit has a content of the mount's own, and then another one.
 const FILLED: &[Step] = &[
-    Step::Load(ROOT, ONE_FILE),
-    Step::Done(Change::At((ROOT, b"test.txt"), What::Fill(WRITTEN))),
-    Step::Look(TEST, 2, Kind::File, None),
-    Step::Files(&[(1, 87), (2, 77)]),
-    Step::Done(Change::At((ROOT, b"test.txt"), What::Fill(b""))),
-    Step::Files(&[(1, 87), (2, 64)]),
+    (ROOT, Does::Load(ONE_FILE)),
+    (ROOT, Does::At(b'c', What::Fill(WRITTEN))),
+    (TEST, Does::Look(2, Kind::File, None)),
+    (ROOT, Does::Files(&[(1, 87), (2, 77)])),
+    (ROOT, Does::At(b'c', What::Fill(b""))),
+    (ROOT, Does::Files(&[(1, 87), (2, 64)])),
 ];
 
 /// A file of the commit moves into a new directory.
 const MOVED_BETWEEN: &[Step] = &[
-    Step::Load(ROOT, ONE_FILE),
-    Step::Give(1),
-    Step::Done(Change::At((ROOT, b"d"), What::Put(DIR_3, None))),
-    Step::Files(&[(1, 119), (3, 68)]),
-    Step::LoadOwn(IN_D),
-    Step::Done(Change::Move((ROOT, b"test.txt"), (IN_D, b"t"))),
-    Step::Gone(TEST),
-    Step::Look(MOVED, 2, Kind::File, Some(VERSION_1)),
-    Step::Files(&[(1, 80), (3, 100)]),
+    (ROOT, Does::Load(ONE_FILE)),
+    (ROOT, Does::Give(Some(3))),
+    (ROOT, Does::Put(b'd', DIR_3, None)),
+    (ROOT, Does::Files(&[(1, 119), (3, 68)])),
+    (IN_D, Does::LoadOwn),
+    (ROOT, Does::Move(b'c', IN_D, b't')),
+    (TEST, Does::Gone),
+    (MOVED, Does::Look(2, Kind::File, Some(VERSION_1))),
+    (ROOT, Does::Files(&[(1, 80), (3, 100)])),
 ];
 
 /// A new link takes the place of a file of the commit.
 const MOVED_WITHIN: &[Step] = &[
-    Step::Load(ROOT, ONE_FILE),
-    Step::Give(1),
-    Step::Done(Change::At((ROOT, b"l"), What::Put(LINK_3, Some(b"a/b")))),
-    Step::Files(&[(1, 119), (3, 67)]),
-    Step::Done(Change::Move((ROOT, b"l"), (ROOT, b"test.txt"))),
-    Step::Gone(LINK),
-    Step::Look(TEST, 3, Kind::Link, None),
-    Step::Files(&[(1, 87), (3, 67)]),
+    (ROOT, Does::Load(ONE_FILE)),
+    (ROOT, Does::Give(Some(3))),
+    (ROOT, Does::Put(b'l', LINK_3, Some(b"a/b"))),
+    (ROOT, Does::Files(&[(1, 119), (3, 67)])),
+    (ROOT, Does::Move(b'l', ROOT, b'c')),
+    (LINK, Does::Gone),
+    (TEST, Does::Look(3, Kind::Link, None)),
+    (ROOT, Does::Files(&[(1, 87), (3, 67)])),
 ];
 
 /// A new link takes the place of a file that is the mount's own.
 const MOVED_OVER: &[Step] = &[
-    Step::Load(ROOT, ONE_FILE),
-    Step::Done(Change::At((ROOT, b"test.txt"), What::Put(FILE_2, Some(WRITTEN)))),
-    Step::Look(TEST, 2, Kind::File, None),
-    Step::Files(&[(1, 87), (2, 77)]),
-    Step::Give(1),
-    Step::Done(Change::At((ROOT, b"l"), What::Put(LINK_3, Some(b"a/b")))),
-    Step::Files(&[(1, 99), (2, 77), (3, 67)]),
-    Step::Done(Change::Move((ROOT, b"l"), (ROOT, b"test.txt"))),
-    Step::Gone(LINK),
-    Step::Look(TEST, 3, Kind::Link, None),
-    Step::Files(&[(1, 87), (3, 67)]),
+    (ROOT, Does::Load(ONE_FILE)),
+    (ROOT, Does::Put(b'c', FILE_2, Some(WRITTEN))),
+    (TEST, Does::Look(2, Kind::File, None)),
+    (ROOT, Does::Files(&[(1, 87), (2, 77)])),
+    (ROOT, Does::Give(Some(3))),
+    (ROOT, Does::Put(b'l', LINK_3, Some(b"a/b"))),
+    (ROOT, Does::Files(&[(1, 99), (2, 77), (3, 67)])),
+    (ROOT, Does::Move(b'l', ROOT, b'c')),
+    (LINK, Does::Gone),
+    (TEST, Does::Look(3, Kind::Link, None)),
+    (ROOT, Does::Files(&[(1, 87), (3, 67)])),
 ];
 
 /// The root becomes the mount's own, and then a directory below it, which is stored and named so.
 const OWNED: &[Step] = &[
-    Step::Load(ROOT, TWO_FILES),
-    Step::Load(BAK, ONE_FILE),
-    Step::Done(Change::Own(ROOT)),
-    Step::Look(BAK, 2, Kind::Dir, Some(ONE_FILE)),
-    Step::Files(&[(1, 179)]),
-    Step::Done(Change::Own(BAK)),
-    Step::Look(BAK, 2, Kind::Dir, None),
-    Step::Files(&[(1, 159), (2, 107)]),
+    (ROOT, Does::Load(TWO_FILES)),
+    (BAK, Does::Load(ONE_FILE)),
+    (ROOT, Does::Own),
+    (BAK, Does::Look(2, Kind::Dir, Some(ONE_FILE))),
+    (ROOT, Does::Files(&[(1, 179)])),
+    (BAK, Does::Own),
+    (BAK, Does::Look(2, Kind::Dir, None)),
+    (ROOT, Does::Files(&[(1, 159), (2, 107)])),
 ];
 
 /// A file of the commit goes, which makes its directory the mount's own; then that directory goes with its file.
 const REMOVED: &[Step] = &[
-    Step::Load(ROOT, TWO_FILES),
-    Step::Load(BAK, ONE_FILE),
-    Step::Done(Change::At((BAK, b"test.txt"), What::Remove)),
-    Step::Gone(BAK_TEST),
-    Step::Look(BAK, 2, Kind::Dir, None),
-    Step::Files(&[(1, 159), (2, 68)]),
-    Step::Unload(BAK),
-    Step::Done(Change::At((ROOT, b"bak"), What::Remove)),
-    Step::Gone(BAK),
-    Step::Files(&[(1, 145)]),
+    (ROOT, Does::Load(TWO_FILES)),
+    (BAK, Does::Load(ONE_FILE)),
+    (BAK, Does::At(b'c', What::Remove)),
+    (BAK_TEST, Does::Gone),
+    (BAK, Does::Look(2, Kind::Dir, None)),
+    (ROOT, Does::Files(&[(1, 159), (2, 68)])),
+    (BAK, Does::Unload(0, 1)),
+    (ROOT, Does::At(b'a', What::Remove)),
+    (BAK, Does::Gone),
+    (ROOT, Does::Files(&[(1, 145)])),
 ];
 
 /// Directories of the commit go: their numbers are saved, and a load gives them back. A second unload leaves the same.
 const SAVED: &[Step] = &[
-    Step::Load(ROOT, TWO_FILES),
-    Step::Load(BAK, ONE_FILE),
-    Step::Unload(ROOT),
-    Step::Files(&[(1, 199), (2, 127)]),
-    Step::Give(1),
-    Step::LoadSaved(ROOT, TWO_FILES),
-    Step::Look(BAK, 2, Kind::Dir, Some(ONE_FILE)),
-    Step::Look(TEST, 4, Kind::File, Some(VERSION_2)),
-    Step::LoadSaved(BAK, ONE_FILE),
-    Step::Look(BAK_TEST, 5, Kind::File, Some(VERSION_1)),
-    Step::Unload(ROOT),
-    Step::Files(&[(1, 199), (2, 127)]),
+    (ROOT, Does::Load(TWO_FILES)),
+    (BAK, Does::Load(ONE_FILE)),
+    (ROOT, Does::Unload(0, 2)),
+    (ROOT, Does::Files(&[(1, 199), (2, 127)])),
+    (ROOT, Does::Give(Some(6))),
+    (ROOT, Does::LoadSaved(TWO_FILES)),
+    (BAK, Does::Look(2, Kind::Dir, Some(ONE_FILE))),
+    (TEST, Does::Look(4, Kind::File, Some(VERSION_2))),
+    (BAK, Does::LoadSaved(ONE_FILE)),
+    (BAK_TEST, Does::Look(5, Kind::File, Some(VERSION_1))),
+    (ROOT, Does::Unload(0, 2)),
+    (ROOT, Does::Files(&[(1, 199), (2, 127)])),
 ];
 
 /// A directory whose numbers are saved becomes the mount's own: its entries take the place of its numbers.
 const OWNED_AFTER: &[Step] = &[
-    Step::Load(ROOT, TWO_FILES),
-    Step::Load(BAK, ONE_FILE),
-    Step::Unload(BAK),
-    Step::Files(&[(2, 127)]),
-    Step::LoadSaved(BAK, ONE_FILE),
-    Step::Done(Change::Own(BAK)),
-    Step::Look(BAK_TEST, 5, Kind::File, Some(VERSION_1)),
-    Step::Files(&[(1, 159), (2, 107)]),
+    (ROOT, Does::Load(TWO_FILES)),
+    (BAK, Does::Load(ONE_FILE)),
+    (BAK, Does::Unload(0, 1)),
+    (ROOT, Does::Files(&[(2, 127)])),
+    (BAK, Does::LoadSaved(ONE_FILE)),
+    (BAK, Does::Own),
+    (BAK_TEST, Does::Look(5, Kind::File, Some(VERSION_1))),
+    (ROOT, Does::Files(&[(1, 159), (2, 107)])),
 ];
 
 /// One whose numbers are saved goes, and so do these.
 const REMOVED_AFTER: &[Step] = &[
-    Step::Load(ROOT, TWO_FILES),
-    Step::Load(BAK, ONE_FILE),
-    Step::Unload(BAK),
-    Step::Done(Change::At((ROOT, b"bak"), What::Remove)),
-    Step::Gone(BAK),
-    Step::Files(&[(1, 145)]),
+    (ROOT, Does::Load(TWO_FILES)),
+    (BAK, Does::Load(ONE_FILE)),
+    (BAK, Does::Unload(0, 1)),
+    (ROOT, Does::At(b'a', What::Remove)),
+    (BAK, Does::Gone),
+    (ROOT, Does::Files(&[(1, 145)])),
 ];
 
 /// A file of the commit takes its place.
 const REPLACED_AFTER: &[Step] = &[
-    Step::Load(ROOT, TWO_FILES),
-    Step::Load(BAK, ONE_FILE),
-    Step::Unload(BAK),
-    Step::Done(Change::Own(ROOT)),
-    Step::Files(&[(1, 179), (2, 127)]),
-    Step::Done(Change::Move((ROOT, b"test.txt"), (ROOT, b"bak"))),
-    Step::Look(BAK, 4, Kind::File, Some(VERSION_2)),
-    Step::Files(&[(1, 140)]),
+    (ROOT, Does::Load(TWO_FILES)),
+    (BAK, Does::Load(ONE_FILE)),
+    (BAK, Does::Unload(0, 1)),
+    (ROOT, Does::Own),
+    (ROOT, Does::Files(&[(1, 179), (2, 127)])),
+    (ROOT, Does::Move(b'c', ROOT, b'a')),
+    (BAK, Does::Look(4, Kind::File, Some(VERSION_2))),
+    (ROOT, Does::Files(&[(1, 140)])),
 ];
 
 /// It is renamed, and is loaded with its numbers under its new name.
 const RENAMED_AFTER: &[Step] = &[
-    Step::Load(ROOT, TWO_FILES),
-    Step::Load(BAK, ONE_FILE),
-    Step::Unload(BAK),
-    Step::Done(Change::Own(ROOT)),
-    Step::Done(Change::Move((ROOT, b"bak"), (ROOT, b"d"))),
-    Step::Gone(BAK),
-    Step::Files(&[(1, 177), (2, 127)]),
-    Step::LoadSaved(IN_D, ONE_FILE),
-    Step::Look(IN_D_TEST, 5, Kind::File, Some(VERSION_1)),
+    (ROOT, Does::Load(TWO_FILES)),
+    (BAK, Does::Load(ONE_FILE)),
+    (BAK, Does::Unload(0, 1)),
+    (ROOT, Does::Own),
+    (ROOT, Does::Move(b'a', ROOT, b'd')),
+    (BAK, Does::Gone),
+    (ROOT, Does::Files(&[(1, 177), (2, 127)])),
+    (IN_D, Does::LoadSaved(ONE_FILE)),
+    (IN_D_TEST, Does::Look(5, Kind::File, Some(VERSION_1))),
 ];
 
 const ROWS: &[&[Step]] = &[
@@ -244,198 +253,193 @@ const ROWS: &[&[Step]] = &[
     RENAMED_AFTER,
 ];
 
-/// What a call answered that was tried.
-type Answer = Option<Result<(), Fault>>;
-
-/// A place's names.
-#[derive(Drop)]
-struct Spot {
-    path: Vec<Name>,
-    name: Name,
-}
-
-fn spot_of(rt: &impl Abort, alloc: Global, place: Place) -> Spot {
-    Spot {
-        path: names(rt, alloc, place.0),
-        name: name(rt, alloc, place.1),
-    }
-}
-
-fn move_to(rt: &impl Abort, alloc: Global, table: &mut Table, from: Place, to: Place) -> Answer {
-    let from = spot_of(rt, alloc, from);
-    let to = spot_of(rt, alloc, to);
-    let entry = Move {
-        from: &from.path,
-        name: &from.name,
-        to: &to.path,
-        new_name: &to.name,
-    };
-    rename(alloc, table, &entry)
-}
-
-/// Stores a content of at most 2^30 bytes, or a directory without entries: whether that was done.
-fn is_stored(alloc: Global, table: &mut Table, number: u64, content: Option<&[u8]>) -> bool {
-    match content {
-        None => store(alloc, table, number, None).is_ok(),
-        Some(bytes) => {
-            bytes.len() <= 1 << 30 && store(alloc, table, number, Some(bytes)).is_ok()
-        }
-    }
-}
-
-/// Stores a content, or a directory without entries, and puts its entry in.
-fn put_new(
+/// Loads the directory of a tree, for which numbers are saved or not, or which fails so.
+fn loads(
     rt: &impl Abort,
-    alloc: Global,
-    table: &mut Table,
-    spot: &Spot,
-    own: Own,
-    content: Option<&[u8]>,
-) -> Answer {
-    assert!(rt; is_stored(alloc, table, own.number, content));
-    put(alloc, table, &spot.path, &spot.name, own)
-}
-
-/// Changes what stands at a place.
-fn change_at(rt: &impl Abort, alloc: Global, table: &mut Table, spot: &Spot, what: What) -> Answer {
-    match what {
-        What::Turn(kind) => turn_into(alloc, table, &spot.path, &spot.name, kind),
-        What::Fill(content) => fill(alloc, table, &spot.path, &spot.name, content),
-        What::Remove => remove(alloc, table, &spot.path, &spot.name),
-        What::Put(own, content) => put_new(rt, alloc, table, spot, own, content),
-    }
-}
-
-fn try_change(rt: &impl Abort, alloc: Global, table: &mut Table, change: Change) -> Answer {
-    match change {
-        Change::Own(path) => own(alloc, table, &names(rt, alloc, path)),
-        Change::At(place, what) => change_at(rt, alloc, table, &spot_of(rt, alloc, place), what),
-        Change::Move(from, to) => move_to(rt, alloc, table, from, to),
+    mount: &mut Mount<Global>,
+    path: &[Name],
+    tree: Sample,
+    want: Result<bool, Fault>,
+) -> bool {
+    match mount.table.missing(path) {
+        None => false,
+        Some(key) => key.id == tree.id && mount.load_object(rt, path, key.id) == want,
     }
 }
 
 /// Loads a directory that has no tree object.
-fn load_own(alloc: Global, table: &mut Table, path: &[Name]) -> bool {
-    match table.unloaded(path) {
-        Some(Origin::Own) => table.load(alloc, path, None).is_ok(),
+fn loads_own(mount: &mut Mount<Global>, path: &[Name]) -> bool {
+    match mount.table.unloaded(path) {
+        Some(Origin::Own) => mount.table.load(mount.alloc, path, None).is_ok(),
         _ => false,
     }
 }
 
-/// Gives so many numbers.
-fn give(table: &mut Table, count: u64) -> bool {
-    for _ in 0..count {
-        if table.give_number().is_none() {
-            return false;
+/// Changes what stands at a place.
+fn changes(rt: &impl Abort, mount: &mut Mount<Global>, place: Place<'_>, what: What) -> bool {
+    let spot = spot_of(rt, mount.alloc, place);
+    let is_done = change_at(mount.alloc, &mut mount.table, &spot, what);
+    drop(spot);
+    is_done
+}
+
+/// Stores a content of at most 2^30 bytes, or a directory without entries.
+fn stores(mount: &mut Mount<Global>, number: u64, content: Option<&[u8]>) -> bool {
+    match content {
+        None => store(mount.alloc, &mut mount.table, number, None).is_ok(),
+        Some(bytes) => {
+            bytes.len() <= 1 << 30
+                && store(mount.alloc, &mut mount.table, number, Some(bytes)).is_ok()
         }
     }
-    true
 }
 
-/// Where contents come from that are of this object, or the mount's own.
-fn origin_of(object: Option<Sample>) -> Origin {
-    match object {
-        Some(object) => Origin::Object(object.id),
-        None => Origin::Own,
-    }
+fn moves(rt: &impl Abort, mount: &mut Mount<Global>, from: Place<'_>, to: Place<'_>) -> bool {
+    let from = spot_of(rt, mount.alloc, from);
+    let to = spot_of(rt, mount.alloc, to);
+    let is_done = move_to(mount.alloc, &mut mount.table, &from, &to);
+    drop(from);
+    drop(to);
+    is_done
 }
 
-/// The path that a step names.
-fn path_of(step: Step) -> Names {
-    match step {
-        Step::Load(path, _)
-        | Step::LoadSaved(path, _)
-        | Step::LoadOwn(path)
-        | Step::Unload(path)
-        | Step::Look(path, _, _, _)
-        | Step::Gone(path) => path,
-        Step::Give(_) | Step::Done(_) | Step::Files(_) => ROOT,
-    }
+fn unloads(mount: &mut Mount<Global>, path: &[Name], age: u64, went: u64) -> bool {
+    let gone = mount.table.unload(mount.alloc, path, age);
+    gone.count == went && gone.refused != Some(FilesFault::Memory)
 }
 
-/// Takes one step that is no look at the files: whether it was done, and shows what it says.
-fn take(rt: &impl Abort, alloc: Global, table: &mut Table, step: Step) -> bool {
-    let path = names(rt, alloc, path_of(step));
-    match step {
-        Step::Load(_, tree) => load(rt, alloc, table, &path, tree).is_ok(),
-        Step::LoadSaved(_, tree) => load_tree(rt, alloc, table, &path, tree) == Ok(true),
-        Step::LoadOwn(_) => load_own(alloc, table, &path),
-        Step::Unload(_) => table.unload(alloc, &path, 0).count > 0,
-        Step::Give(count) => give(table, count),
-        Step::Done(change) => try_change(rt, alloc, table, change) == Some(Ok(())),
-        Step::Look(_, number, kind, object) => {
-            shows(table, &path, number, kind, origin_of(object))
-        }
-        Step::Gone(_) => table.look(&path).names < path.len(),
-        Step::Files(_) => true,
-    }
+fn looks(mount: &mut Mount<Global>, path: &[Name], number: u64, kind: Kind, from: Origin) -> bool {
+    let seen = mount.table.look(path);
+    seen.names == path.len() && seen.number == number && seen.kind == kind && seen.origin == from
 }
 
-fn has_size(alloc: Global, files: &mut MemoryFiles<Outside>, number: u64, size: usize) -> bool {
-    match files.read(alloc, number) {
-        Ok(Some(bytes)) => bytes.len() == size,
-        _ => false,
-    }
+/// Whether the first look compares two names or three, and the second finds the same and compares none.
+fn looks_twice(mount: &mut Mount<Global>, path: &[Name]) -> bool {
+    let mut trail = Trail::new();
+    let seen = mount.table.look_along(path, &mut trail);
+    let is_found = seen.names == 2 && seen.number == 5 && trail.depth() == 2;
+    let compared = trail.compared();
+    trail.recount();
+    let is_same = mount.table.look_along(path, &mut trail) == seen && trail.compared() == 0;
+    is_found && 2 <= compared && compared <= 3 && is_same
 }
 
-/// Whether files of these numbers are those, in order, each of its size.
-fn have_sizes(
-    alloc: Global,
-    files: &mut MemoryFiles<Outside>,
-    numbers: &[u64],
-    want: Sizes,
+fn is_numbered(
+    rt: &impl Abort,
+    mount: &mut Mount<Global>,
+    path: &[Name],
+    number: u64,
+    next: u64,
 ) -> bool {
-    for (number, (wanted, size)) in numbers.iter().zip(want) {
-        if number != wanted || !has_size(alloc, files, *number, *size) {
-            return false;
-        }
-    }
-    numbers.len() == want.len()
+    mount.load(rt, path)
+        && mount.table.look(path).number == number
+        && mount.table.next_number() == next
 }
 
-/// Whether just these files are under a table.
-fn leaves(rt: &impl Abort, alloc: Global, table: Table, want: Sizes) -> bool {
-    let mut files: MemoryFiles<Outside> = table.into_overlay().into_files();
-    let numbers = files.list(alloc).expect(rt, "a list");
-    have_sizes(alloc, &mut files, numbers.as_slice(), want)
+/// Does what needs no more than the mount.
+fn is_so(rt: &impl Abort, mount: &mut Mount<Global>, does: Does) -> bool {
+    match does {
+        Does::Tick => {
+            mount.table.tick();
+            true
+        }
+        Does::Pass(calls) => {
+            mount.calls.set(calls);
+            true
+        }
+        Does::OpenAgain => {
+            let alloc = mount.alloc;
+            mount.open_again(rt, &alloc);
+            true
+        }
+        Does::Left(calls) => mount.calls.get() == calls,
+        Does::Give(number) => mount.table.give_number() == number,
+        Does::Next(number) => mount.table.next_number() == number,
+        Does::Changes(count) => mount.table.changes() == count,
+        Does::Files(want) => is_stored(mount.alloc, &mut mount.table, Stored::Sizes(want)),
+        Does::Stored(want) => is_stored(mount.alloc, &mut mount.table, want),
+        _ => false,
+    }
+}
+
+/// Does what a step says at its path: whether it answers and shows that.
+fn is_done(rt: &impl Abort, mount: &mut Mount<Global>, path: &[Name], does: Does) -> bool {
+    match does {
+        Does::Load(tree) => loads(rt, mount, path, tree, Ok(false)),
+        Does::LoadSaved(tree) => loads(rt, mount, path, tree, Ok(true)),
+        Does::RunOut(tree) => loads(rt, mount, path, tree, Err(Fault::Numbers)),
+        Does::LoadOwn => loads_own(mount, path),
+        Does::Own => own(mount.alloc, &mut mount.table, path),
+        Does::Unload(age, went) => unloads(mount, path, age, went),
+        Does::Look(number, kind, object) => looks(mount, path, number, kind, origin_of(object)),
+        Does::LookTwice => looks_twice(mount, path),
+        Does::Numbered(number, next) => is_numbered(rt, mount, path, number, next),
+        Does::Gone => mount.table.look(path).names < path.len(),
+        Does::Reads(content) => mount.reads(path, content),
+        other => is_so(rt, mount, other),
+    }
+}
+
+/// The same for a path that isn't made of names yet.
+fn is_done_at(rt: &impl Abort, mount: &mut Mount<Global>, path: &[u8], does: Does) -> bool {
+    let path = names(rt, mount.alloc, path);
+    let is_done = is_done(rt, mount, &path, does);
+    drop(path);
+    is_done
+}
+
+/// Takes a step: whether it answers and shows what it says.
+fn take(rt: &impl Abort, mount: &mut Mount<Global>, path: &[u8], does: Does) -> bool {
+    match does {
+        Does::At(letter, what) => changes(rt, mount, Place { path, letter }, what),
+        Does::Put(letter, own, content) => {
+            stores(mount, own.number, content)
+                && changes(rt, mount, Place { path, letter }, What::Put(own))
+        }
+        Does::Move(letter, to, there) => {
+            let to = Place {
+                path: to,
+                letter: there,
+            };
+            moves(rt, mount, Place { path, letter }, to)
+        }
+        other => is_done_at(rt, mount, path, other),
+    }
+}
+
+fn take_each(rt: &impl Abort, mount: &mut Mount<Global>, steps: &[Step]) {
+    for (count, (path, does)) in steps.iter().enumerate() {
+        assert!(rt; take(rt, mount, path, *does), "step {count}");
+    }
+}
+
+/// Takes the steps on a table of that commit, or with an own root without entries, and nothing loaded.
+pub(crate) fn check(
+    rt: &impl Abort,
+    alloc: Global,
+    commit: Option<Sample>,
+    next: u64,
+    steps: &[Step],
+)
+    requires least { number_least ≤ next }
+    requires most { next ≤ number_end }
+{
+    let mut mount = Mount::open(rt, alloc, &alloc, origin_of(commit), next);
+    take_each(rt, &mut mount, steps);
+    drop(mount);
 }
 
 /// The commit's tree of a row: it comes first in its steps.
 fn tree_of(steps: &[Step]) -> Sample {
     match steps.first() {
-        Some(Step::Load(_, tree)) => *tree,
+        Some((_, Does::Load(tree))) => *tree,
         _ => TWO_FILES,
-    }
-}
-
-/// Takes these steps of a row on a table of its commit, with nothing loaded.
-fn take_all(rt: &impl Abort, alloc: Global, steps: &[Step]) -> Table {
-    let mut table = table(alloc, tree_of(steps), 2);
-    for (count, step) in steps.iter().enumerate() {
-        assert!(rt; take(rt, alloc, &mut table, *step), "step {count}");
-    }
-    table
-}
-
-/// Takes all steps of a row.
-fn check_steps(rt: &impl Abort, alloc: Global, steps: &[Step]) {
-    drop(take_all(rt, alloc, steps));
-}
-
-/// Takes the steps before each look at the files, anew each time, since that ends a table.
-fn check_files(rt: &impl Abort, alloc: Global, steps: &[Step]) {
-    for (count, step) in steps.iter().enumerate() {
-        if let Step::Files(want) = step {
-            let table = take_all(rt, alloc, &steps[..count]);
-            assert!(rt; leaves(rt, alloc, table, want), "step {count}");
-        }
     }
 }
 
 #[test]
 fn changes_leave_these_files(rt: HostRuntime) {
     for steps in ROWS {
-        check_steps(&rt, rt.alloc(), steps);
-        check_files(&rt, rt.alloc(), steps);
+        check(&rt, rt.alloc(), Some(tree_of(steps)), 2, steps);
     }
 }
