@@ -20,7 +20,7 @@ enum Sample {
 
 use Sample::{EmptyBlob, NewFile, TreeA, Version1, Version2};
 
-const SAMPLES: [Sample; 5] = [Version1, Version2, NewFile, TreeA, EmptyBlob];
+const SAMPLES: &[Sample] = &[Version1, Version2, NewFile, TreeA, EmptyBlob];
 
 impl Sample {
     /// The id that Git gives.
@@ -99,7 +99,7 @@ struct Row {
     weight: u64,
 }
 
-static ROWS: [Row; 3] = [
+const ROWS: &[Row] = &[
     // Too heavy for the bound, it is alone.
     Row {
         entries: 2,
@@ -139,7 +139,7 @@ fn take_step<A: Allocator + Clone>(
     step: Step,
 ) {
     match step {
-        Put(sample) => assert!(rt; put(rt, alloc, cache, sample).is_ok()),
+        Put(sample) => put(rt, alloc, cache, sample).ok().expect(rt, "room"),
         Get(sample) => assert!(rt; holds(rt, cache, sample)),
     }
 }
@@ -170,27 +170,16 @@ fn take_steps<A: Allocator + Clone>(
     }
 }
 
-/// Whether each sample is there that has to be, and no other.
+/// Whether each sample and each length is there that has to be, and no other.
 fn holds_these<A: Allocator + Clone>(
     rt: &impl Abort,
     cache: &mut ObjectCache<A>,
-    objects: &[bool; 5],
+    row: &Row,
 ) -> bool {
-    for (sample, there) in SAMPLES.iter().zip(objects.iter()) {
-        if holds(rt, cache, *sample) != *there {
-            return false;
-        }
-    }
-    true
-}
-
-/// Whether each length is kept that has to be, and no other.
-fn keeps_these<A: Allocator + Clone>(
-    cache: &mut ObjectCache<A>,
-    lengths: &[Option<u64>; 5],
-) -> bool {
-    for (sample, length) in SAMPLES.iter().zip(lengths.iter()) {
-        if cache.size_of(sample.key().id) != *length {
+    for (at, sample) in SAMPLES.iter().enumerate() {
+        if row.objects.get(at) != Some(&holds(rt, cache, *sample))
+            || row.lengths.get(at) != Some(&cache.size_of(sample.key().id))
+        {
             return false;
         }
     }
@@ -205,19 +194,19 @@ fn cache_of(rt: &impl Abort, alloc: Global, row: &Row) -> ObjectCache<Global> {
     ObjectCache::new(alloc, row.entries, row.bytes, row.sizes).expect(rt, "memory")
 }
 
-/// Takes the row's steps: then the cache is as the row says.
-fn try_row(rt: &impl Abort, alloc: Global, row: &Row) {
+/// Takes the row's steps: whether the cache is then as the row says.
+fn is_as_told(rt: &impl Abort, alloc: Global, row: &Row) -> bool {
     let mut cache = cache_of(rt, alloc, row);
     take_steps(rt, alloc, &mut cache, row.steps);
-    assert!(rt; cache.usage().bytes == row.weight);
-    assert!(rt; holds_these(rt, &mut cache, &row.objects));
-    assert!(rt; keeps_these(&mut cache, &row.lengths));
+    let is_so = cache.usage().bytes == row.weight && holds_these(rt, &mut cache, row);
+    drop(cache);
+    is_so
 }
 
 #[test]
 fn what_was_used_last_stays(rt: HostRuntime) {
-    for row in &ROWS {
-        try_row(&rt, rt.alloc(), row);
+    for (at, row) in ROWS.iter().enumerate() {
+        assert!(rt; is_as_told(&rt, rt.alloc(), row), "at {at}");
     }
 }
 
@@ -229,16 +218,16 @@ struct Reached {
     lengths_left_out: usize,
 }
 
-/// A refused put handed the object back, and changed nothing.
-fn check_refused<A: Allocator + Clone>(
+/// Whether a refused put handed the object back, and left no trace of it.
+fn is_handed_back<A: Allocator + Clone>(
     rt: &impl Abort,
     cache: &mut ObjectCache<A>,
     sample: Sample,
     back: &Object,
-) {
-    assert!(rt; sample.framed().ends_with(back.body()));
-    assert!(rt; !holds(rt, cache, sample));
-    assert!(rt; cache.size_of(sample.key().id).is_none());
+) -> bool {
+    sample.framed().ends_with(back.body())
+        && !holds(rt, cache, sample)
+        && cache.size_of(sample.key().id).is_none()
 }
 
 /// Whether a put found memory. A refused one changes nothing.
@@ -252,8 +241,10 @@ fn finds_memory<A: Allocator + Clone>(
     match put(rt, alloc, cache, sample) {
         Ok(()) => true,
         Err(object) => {
-            assert!(rt; cache.usage() == usage);
-            check_refused(rt, cache, sample, &object);
+            let is_unchanged = cache.usage() == usage;
+            let is_handed_back = is_handed_back(rt, cache, sample, &object);
+            drop(object);
+            assert!(rt; is_unchanged && is_handed_back);
             false
         }
     }
@@ -275,11 +266,11 @@ fn fill<A: Allocator + Clone>(
         lengths_left_out: 0,
     };
     for sample in SAMPLES {
-        if !finds_memory(rt, alloc, cache, sample) {
+        if !finds_memory(rt, alloc, cache, *sample) {
             return reached;
         }
         reached.stored = reached.stored.saturating_add(1);
-        if lacks_length(cache, sample) {
+        if lacks_length(cache, *sample) {
             reached.lengths_left_out = reached.lengths_left_out.saturating_add(1);
         }
     }
@@ -293,7 +284,7 @@ fn fill_and_look<A: Allocator + Clone>(
     cache: &mut ObjectCache<A>,
 ) -> Reached {
     let reached = fill(rt, alloc, cache);
-    for sample in SAMPLES.iter().take(reached.stored) {
+    for sample in SAMPLES.get(..reached.stored).expect(rt, "samples") {
         assert!(rt; holds(rt, cache, *sample));
     }
     reached
@@ -303,7 +294,11 @@ fn fill_and_look<A: Allocator + Clone>(
 fn fill_heap(rt: &impl Abort, alloc: Global, heap: &LocalHeap) -> Option<Reached> {
     match ObjectCache::new(heap, 5, 100, 5) {
         Err(_) => None,
-        Ok(mut cache) => Some(fill_and_look(rt, alloc, &mut cache)),
+        Ok(mut cache) => {
+            let reached = fill_and_look(rt, alloc, &mut cache);
+            drop(cache);
+            Some(reached)
+        }
     }
 }
 
@@ -329,7 +324,9 @@ impl Met {
 fn reached_in(rt: &impl Abort, alloc: Global, bytes: usize) -> Option<Reached> {
     let heap = LocalHeap::new(alloc, bytes).expect(rt, "memory");
     let reached = fill_heap(rt, alloc, &heap);
-    assert!(rt; heap.used() == 0);
+    let used = heap.used();
+    drop(heap);
+    assert!(rt; used == 0);
     reached
 }
 
@@ -345,8 +342,7 @@ fn each_refused_put_hands_the_object_back(rt: HostRuntime) {
             met.note(reached);
         }
     }
-    assert!(rt; met.refused == [true; 5]);
-    assert!(rt; met.left_out && met.all);
+    assert!(rt; met.refused == [true; 5] && met.left_out && met.all);
 }
 
 /// The blob of these framed bytes.
@@ -359,11 +355,10 @@ fn blob(rt: &impl Abort, alloc: Global, framed: &[u8]) -> Object
 
 /// The id of that number.
 fn numbered(number: usize) -> Id {
-    let mut bytes = [0; 20];
-    for (byte, digit) in bytes.iter_mut().zip((number as u64).to_be_bytes()) {
-        *byte = digit;
+    let [a, b, c, d, e, f, g, h] = (number as u64).to_be_bytes();
+    Id {
+        bytes: [a, b, c, d, e, f, g, h, 0, 0, 0, 0, 0, 0, 0, 0, 0, 0, 0, 0],
     }
-    Id { bytes }
 }
 
 /// Puts so many equal blobs under one key after another.
@@ -382,7 +377,7 @@ fn put_many<A: Allocator + Clone>(
             kind: object.kind(),
             id: numbered(number),
         };
-        assert!(rt; cache.put(key, object).is_ok());
+        cache.put(key, object).ok().expect(rt, "room");
     }
 }
 
@@ -396,16 +391,27 @@ fn keeps<A: Allocator + Clone>(cache: &mut ObjectCache<A>, number: usize, there:
     cache.get(key).is_some() == there && cache.size_of(id).is_some() == there
 }
 
+/// Puts one blob more than a cache of the greatest size holds.
+fn overfill<A: Allocator + Clone>(rt: &impl Abort, alloc: Global, cache: &mut ObjectCache<A>) {
+    let framed = Version1.framed();
+    assert!(rt; check(Version1.key().id, ObjKind::Blob, framed).is_ok());
+    put_many(rt, alloc, cache, OBJECTS_LIMIT + 1, framed);
+}
+
+/// The cache is full of all but the first.
+fn check_full<A: Allocator + Clone>(rt: &impl Abort, cache: &mut ObjectCache<A>) {
+    let usage = cache.usage();
+    assert!(rt; usage.objects == OBJECTS_LIMIT && usage.sizes == SIZES_LIMIT);
+    for number in 0..OBJECTS_LIMIT + 1 {
+        assert!(rt; keeps(cache, number, number > 0));
+    }
+}
+
 #[test]
 fn a_full_cache_lets_the_oldest_go(rt: HostRuntime) {
     let cache = ObjectCache::new(rt.alloc(), OBJECTS_LIMIT, BYTES_LIMIT, SIZES_LIMIT);
     let mut cache = cache.expect(&rt, "memory");
-    let framed = Version1.framed();
-    assert!(rt; check(Version1.key().id, ObjKind::Blob, framed).is_ok());
-    put_many(&rt, rt.alloc(), &mut cache, OBJECTS_LIMIT + 1, framed);
-    assert!(rt; cache.usage().objects == OBJECTS_LIMIT);
-    assert!(rt; cache.usage().sizes == SIZES_LIMIT);
-    for number in 0..OBJECTS_LIMIT + 1 {
-        assert!(rt; keeps(&mut cache, number, number > 0));
-    }
+    overfill(&rt, rt.alloc(), &mut cache);
+    check_full(&rt, &mut cache);
+    drop(cache);
 }

@@ -58,49 +58,27 @@ fn failure_of(number: Option<(u8, Cause)>) -> Option<(Key, Cause)> {
     }
 }
 
-fn leave<A: Allocator>(rt: &impl Abort, imports: &mut Imports<A>, key: Key, pass: u32) {
-    assert!(rt; pass >= 1 && pass <= imports.passes());
-    imports.leave(key, pass);
-}
-
-fn await_key<A: Allocator>(
-    rt: &impl Abort,
-    imports: &mut Imports<A>,
-    key: Key,
-    pass: u32,
-) -> Wanted {
-    assert!(rt; pass >= 1 && pass <= imports.passes());
-    imports.await_key(key, pass)
-}
-
-fn quit<A: Allocator>(rt: &impl Abort, imports: &mut Imports<A>, pass: u32) {
-    assert!(rt; pass >= 1 && pass <= imports.passes());
-    imports.quit(pass);
-}
-
-fn failure<A: Allocator>(
+/// Makes a call of that pass, or asks of it: whether the answer is the one that it must be.
+fn make_of_pass<A: Allocator>(
     rt: &impl Abort,
     imports: &mut Imports<A>,
     pass: u32,
-) -> Option<(Key, Cause)> {
+    call: &Call,
+) -> bool {
     assert!(rt; pass >= 1 && pass <= imports.passes());
-    imports.failure(pass)
-}
-
-fn wanted<A: Allocator>(rt: &impl Abort, imports: &Imports<A>, pass: u32) -> Option<Key> {
-    assert!(rt; pass >= 1 && pass <= imports.passes());
-    imports.wanted(pass)
-}
-
-/// Makes a call of a key by a pass, or asks of it: whether the answer is the one that it must be.
-fn make_of_pass<A: Allocator>(rt: &impl Abort, imports: &mut Imports<A>, call: &Call) -> bool {
     match call {
-        Call::Want(number, pass, answer) => { want(rt, imports, key(*number), *pass) == *answer }
-        Call::Await(number, pass, answer) => {
-            await_key(rt, imports, key(*number), *pass) == *answer
+        Call::Want(number, _, answer) => want(rt, imports, key(*number), pass) == *answer,
+        Call::Await(number, _, answer) => imports.await_key(key(*number), pass) == *answer,
+        Call::Failure(_, answer) => imports.failure(pass) == failure_of(*answer),
+        Call::Wants(_, answer) => imports.wanted(pass) == key_of(*answer),
+        Call::Leave(number, _) => {
+            imports.leave(key(*number), pass);
+            true
         }
-        Call::Failure(pass, answer) => failure(rt, imports, *pass) == failure_of(*answer),
-        Call::Wants(pass, answer) => wanted(rt, imports, *pass) == key_of(*answer),
+        Call::Quit(_) => {
+            imports.quit(pass);
+            true
+        }
         _ => false,
     }
 }
@@ -108,23 +86,18 @@ fn make_of_pass<A: Allocator>(rt: &impl Abort, imports: &mut Imports<A>, call: &
 /// Makes a call: whether the answer is the one that it must be.
 fn make<A: Allocator>(rt: &impl Abort, imports: &mut Imports<A>, call: &Call) -> bool {
     match call {
-        Call::Leave(number, pass) => {
-            leave(rt, imports, key(*number), *pass);
-            true
-        }
-        Call::Quit(pass) => {
-            quit(rt, imports, *pass);
-            true
-        }
+        Call::Want(_, pass, _) | Call::Await(_, pass, _) => make_of_pass(rt, imports, *pass, call),
+        Call::Failure(pass, _) => make_of_pass(rt, imports, *pass, call),
+        Call::Wants(pass, _) => make_of_pass(rt, imports, *pass, call),
+        Call::Leave(_, pass) | Call::Quit(pass) => make_of_pass(rt, imports, *pass, call),
         Call::Take(answer) => imports.take() == key_of(*answer),
         Call::Done(number, answer) => imports.done(key(*number)) == *answer,
         Call::Failed(number, cause, answer) => imports.failed(key(*number), *cause) == *answer,
         Call::InFlight(number, answer) => imports.is_in_flight(key(*number)) == *answer,
-        _ => make_of_pass(rt, imports, call),
     }
 }
 
-static JOINED_AND_FAILED: [Call; 16] = [
+const JOINED_AND_FAILED: &[Call] = &[
     Call::Want(1, 1, Wanted::Queued),
     Call::Want(2, 2, Wanted::Queued),
     Call::Want(1, 3, Wanted::Joined),
@@ -153,12 +126,14 @@ fn make_each<A: Allocator>(rt: &impl Abort, imports: &mut Imports<A>, calls: &[C
 #[test]
 fn joined_and_failed(rt: HostRuntime) {
     let mut imports = Imports::new(rt.alloc(), 3, 1).expect(&rt, "memory");
-    assert!(rt; imports.passes() == 3 && imports.flights() == 1);
-    make_each(&rt, &mut imports, &JOINED_AND_FAILED);
+    let sizes = (imports.passes(), imports.flights());
+    make_each(&rt, &mut imports, JOINED_AND_FAILED);
+    drop(imports);
+    assert!(rt; sizes == (3, 1));
 }
 
 /// What the turns of passes do to the queue.
-static AWAITED: [Call; 22] = [
+const AWAITED: &[Call] = &[
     Call::Await(1, 1, Wanted::Queued),
     Call::Await(2, 64, Wanted::Queued),
     Call::Await(5, 3, Wanted::Queued),
@@ -191,24 +166,42 @@ static AWAITED: [Call; 22] = [
 fn awaited(rt: HostRuntime) {
     let imports = Imports::new(rt.alloc(), PASSES_LIMIT, FLIGHTS_LIMIT);
     let mut imports = imports.expect(&rt, "memory");
-    make_each(&rt, &mut imports, &AWAITED);
+    make_each(&rt, &mut imports, AWAITED);
+    drop(imports);
+}
+
+/// Whether the heap has room for a queue of three passes and one flight.
+fn has_room(heap: &LocalHeap) -> bool {
+    let imports = Imports::new(heap, 3, 1);
+    let is_there = imports.is_ok();
+    drop(imports);
+    is_there
 }
 
 /// The smallest heap that has room for a queue of three passes and one flight.
 fn narrowest(rt: &impl Abort, alloc: Global) -> LocalHeap {
     for blocks in 0..1024usize {
         let heap = LocalHeap::new(alloc, blocks * 16).expect(rt, "memory");
-        if Imports::new(&heap, 3, 1).is_ok() {
+        if has_room(&heap) {
             return heap;
         }
+        drop(heap);
     }
     None.expect(rt, "a heap")
+}
+
+/// Makes the calls of a queue that leaves nothing of its heap.
+fn make_each_in(rt: &impl Abort, heap: &LocalHeap, calls: &[Call]) {
+    let mut imports = Imports::new(heap, 3, 1).expect(rt, "memory");
+    let free = heap.free();
+    make_each(rt, &mut imports, calls);
+    drop(imports);
+    assert!(rt; free == 0);
 }
 
 #[test]
 fn calls_of_a_queue_take_no_memory(rt: HostRuntime) {
     let heap = narrowest(&rt, rt.alloc());
-    let mut imports = Imports::new(&heap, 3, 1).expect(&rt, "memory");
-    assert!(rt; heap.free() == 0);
-    make_each(&rt, &mut imports, &JOINED_AND_FAILED);
+    make_each_in(&rt, &heap, JOINED_AND_FAILED);
+    drop(heap);
 }

@@ -133,13 +133,12 @@ fn is_answer(answer: &Answer, outcome: &Outcome) -> bool {
     }
 }
 
+type Mounted = Mount<Outside, Shelf, Global, Kept>;
+
+type Caller = Local<Outside, MemorySource<Outside>, Shelf, Global, Kept>;
+
 /// A mount of three passes and one object in flight, over a shelf.
-fn mount(
-    rt: &impl Abort,
-    alloc: Global,
-    history: u32,
-    wide: bool,
-) -> Mount<Outside, Shelf, Global, Kept>
+fn mount(rt: &impl Abort, alloc: Global, history: u32, wide: bool) -> Mounted
     ensures rest { IsAtRest result }
     ensures unused { IsUnused result }
     ensures passes { result.queue.passes ≡ 3 }
@@ -148,12 +147,7 @@ fn mount(
 }
 
 /// .. over this shelf.
-fn mount_over(
-    rt: &impl Abort,
-    alloc: Global,
-    history: u32,
-    shelf: Shelf,
-) -> Mount<Outside, Shelf, Global, Kept>
+fn mount_over(rt: &impl Abort, alloc: Global, history: u32, shelf: Shelf) -> Mounted
     ensures rest { IsAtRest result }
     ensures unused { IsUnused result }
     ensures passes { result.queue.passes ≡ 3 }
@@ -171,23 +165,55 @@ fn events_of(rt: &impl Abort, alloc: Global, rows: &[(Call, Answer)]) -> Vec<Eve
     events
 }
 
-/// Makes the events happen at once: each answer must be the one beside it.
-fn run(
-    rt: &impl Abort,
-    alloc: Global,
-    mount: &mut Mount<Outside, Shelf, Global, Kept>,
-    rows: &[(Call, Answer)],
-) {
-    let events = events_of(rt, alloc, rows);
-    let outcomes = mount.run(events).expect(rt, "memory");
+/// Each answer is the one of its row.
+fn check_outcomes(rt: &impl Abort, outcomes: &[Outcome], rows: &[(Call, Answer)]) {
     assert!(rt; outcomes.len() == rows.len());
     for (index, outcome) in outcomes.iter().enumerate() {
         assert!(rt; is_answer(&rows[index].1, outcome), "at {index}");
     }
 }
 
+/// Makes the events happen at once: each answer must be the one beside it.
+fn run(rt: &impl Abort, alloc: Global, mount: &mut Mounted, rows: &[(Call, Answer)]) {
+    let events = events_of(rt, alloc, rows);
+    let outcomes = mount.run(events).expect(rt, "memory");
+    check_outcomes(rt, outcomes.as_slice(), rows);
+    drop(outcomes);
+}
+
+/// What is left of a mount and its shelf.
+#[derive(Clone, Copy)]
+struct Left {
+    entries: usize,
+    busy: Option<u32>,
+    turns: u64,
+    handed: Option<u64>,
+    unloads: usize,
+    syncs: usize,
+}
+
+fn left_of(mount: Mounted) -> Left {
+    let entries = mount.history().len();
+    let busy = mount.busy();
+    let shelf = mount.into_table();
+    Left {
+        entries,
+        busy,
+        turns: shelf.turns,
+        handed: shelf.handed,
+        unloads: shelf.unloads,
+        syncs: shelf.syncs,
+    }
+}
+
+/// What is left of the mount after these events.
+fn left_after(rt: &impl Abort, alloc: Global, mut mount: Mounted, rows: &[(Call, Answer)]) -> Left {
+    run(rt, alloc, &mut mount, rows);
+    left_of(mount)
+}
+
 /// A failure is told to those who wait for the key then, where they still need it.
-static FAILURES: [(Call, Answer); 29] = [
+const FAILURES: &[(Call, Answer)] = &[
     (Start(0), Not(StartFault::NoPass)),
     (Start(4), Not(StartFault::NoPass)),
     (Turn(0), Idle),
@@ -223,7 +249,7 @@ static FAILURES: [(Call, Answer); 29] = [
 ];
 
 /// An object that finds no memory fails; the history has a limit.
-static NARROW: [(Call, Answer); 12] = [
+const NARROW: &[(Call, Answer)] = &[
     (StartRoot(1), Began),
     (Turn(1), IsRoot(1)),
     (Arrive(b"blob 0\0"), Arrives(Arrived::Stray)),
@@ -243,29 +269,26 @@ static NARROW: [(Call, Answer); 12] = [
 
 #[test]
 fn failures_are_told(rt: HostRuntime) {
-    let mut mount = mount(&rt, rt.alloc(), 9, true);
-    run(&rt, rt.alloc(), &mut mount, &FAILURES);
-    assert!(rt; mount.history().len() == 4 && mount.busy().is_none());
-    assert!(rt; mount.into_table().turns == 11);
+    let mount = mount(&rt, rt.alloc(), 9, true);
+    let left = left_after(&rt, rt.alloc(), mount, FAILURES);
+    assert!(rt; left.entries == 4 && left.busy.is_none() && left.turns == 11);
 }
 
 #[test]
 fn histories_are_full(rt: HostRuntime) {
-    let mut mount = mount(&rt, rt.alloc(), 3, false);
-    run(&rt, rt.alloc(), &mut mount, &NARROW);
-    assert!(rt; mount.busy() == Some(2));
-    assert!(rt; mount.into_table().turns == 3);
+    let mount = mount(&rt, rt.alloc(), 3, false);
+    let left = left_after(&rt, rt.alloc(), mount, NARROW);
+    assert!(rt; left.busy == Some(2) && left.turns == 3);
 }
 
-/// What the last turn of these events was handed to go on at.
-fn handed(rt: &impl Abort, alloc: Global, rows: &[(Call, Answer)]) -> Option<u64> {
-    let mut mount = mount(rt, alloc, 9, true);
-    run(rt, alloc, &mut mount, rows);
-    mount.into_table().handed
+/// What the last turn of so many of these events was handed to go on at.
+fn handed(rt: &impl Abort, alloc: Global, rows: &[(Call, Answer)], count: usize) -> Option<u64> {
+    let rows = rows.get(..count).expect(rt, "so many rows");
+    left_after(rt, alloc, mount(rt, alloc, 9, true), rows).handed
 }
 
 /// Two passes wait, and go on; the object comes, and each is told; one asks again, and waits for nothing.
-static WAITS: [(Call, Answer); 12] = [
+const WAITS: &[(Call, Answer)] = &[
     (Start(1), Began),
     (Turn(1), Waits),
     (Start(2), Began),
@@ -281,7 +304,7 @@ static WAITS: [(Call, Answer); 12] = [
 ];
 
 /// One whose object fails is told so, and waits for it again when it asks again.
-static WAITS_AGAIN: [(Call, Answer); 8] = [
+const WAITS_AGAIN: &[(Call, Answer)] = &[
     (Start(1), Began),
     (Turn(1), Waits),
     (Take, TakesIt),
@@ -292,20 +315,36 @@ static WAITS_AGAIN: [(Call, Answer); 8] = [
     (Turn(1), Waits),
 ];
 
+/// How many of the first rows happen, and what the last of them was handed.
+const HANDED: &[(usize, Option<u64>)] = &[
+    (2, None),
+    (4, None),
+    (5, Some(1)),
+    (6, Some(2)),
+    (9, Some(3)),
+    (11, None),
+    (12, Some(4)),
+];
+
+/// .. of the others.
+const HANDED_AGAIN: &[(usize, Option<u64>)] = &[(5, Some(1)), (7, None), (8, Some(3))];
+
+fn check_handed(
+    rt: &impl Abort,
+    alloc: Global,
+    rows: &[(Call, Answer)],
+    all: &[(usize, Option<u64>)],
+) {
+    for (count, want) in all {
+        assert!(rt; handed(rt, alloc, rows, *count) == *want, "after {count}");
+    }
+}
+
 /// A turn goes on at the turn at which its own request waited last, if it did.
 #[test]
 fn turns_go_on_where_their_request_waited(rt: HostRuntime) {
-    let alloc = rt.alloc();
-    assert!(rt; handed(&rt, alloc, &WAITS[..2]).is_none());
-    assert!(rt; handed(&rt, alloc, &WAITS[..4]).is_none());
-    assert!(rt; handed(&rt, alloc, &WAITS[..5]) == Some(1));
-    assert!(rt; handed(&rt, alloc, &WAITS[..6]) == Some(2));
-    assert!(rt; handed(&rt, alloc, &WAITS[..9]) == Some(3));
-    assert!(rt; handed(&rt, alloc, &WAITS[..11]).is_none());
-    assert!(rt; handed(&rt, alloc, &WAITS) == Some(4));
-    assert!(rt; handed(&rt, alloc, &WAITS_AGAIN[..5]) == Some(1));
-    assert!(rt; handed(&rt, alloc, &WAITS_AGAIN[..7]).is_none());
-    assert!(rt; handed(&rt, alloc, &WAITS_AGAIN) == Some(3));
+    check_handed(&rt, rt.alloc(), WAITS, HANDED);
+    check_handed(&rt, rt.alloc(), WAITS_AGAIN, HANDED_AGAIN);
 }
 
 /// A shelf that has room, and whose disk works or doesn't.
@@ -330,37 +369,35 @@ fn among_syncs(
     all
 }
 
+/// Waits for the disk before each event and after the last: whether it went each time as the table says.
+fn goes_each_time(rt: &impl Abort, alloc: Global, mount: &mut Mounted, safe: bool) -> bool {
+    let rows = among_syncs(rt, alloc, WAITS, safe);
+    run(rt, alloc, mount, rows.as_slice());
+    drop(rows);
+    mount.sync() == safe
+}
+
+/// Whether a mount with these waits is left as without, with its syncs counted.
+fn is_left_as_without(rt: &impl Abort, alloc: Global, safe: bool) -> bool {
+    let mut mount = mount_over(rt, alloc, 9, shelf_on_disk(safe));
+    let goes = goes_each_time(rt, alloc, &mut mount, safe);
+    let left = left_of(mount);
+    goes && left.entries == 3
+        && left.busy.is_none()
+        && left.turns == 7
+        && left.handed == Some(4)
+        && left.syncs == 13
+}
+
 /// Whoever waits for the disk is told what the table says of it, and no other is told anything else for that.
 #[test]
 fn syncs_change_no_answer(rt: HostRuntime) {
-    let alloc = rt.alloc();
-    for safe in [true, false] {
-        let rows = among_syncs(&rt, alloc, &WAITS, safe);
-        let mut mount = mount_over(&rt, alloc, 9, shelf_on_disk(safe));
-        run(&rt, alloc, &mut mount, rows.as_slice());
-        assert!(rt; mount.history().len() == 3 && mount.busy().is_none());
-        assert!(rt; mount.sync() == safe);
-        let table = mount.into_table();
-        assert!(rt; table.turns == 7 && table.handed == Some(4) && table.syncs == 13);
-    }
+    assert!(rt; is_left_as_without(&rt, rt.alloc(), true));
+    assert!(rt; is_left_as_without(&rt, rt.alloc(), false));
 }
 
-/// One caller over a source that has these bytes under the one key.
-fn caller(
-    rt: &impl Abort,
-    alloc: Global,
-    framed: &[u8],
-) -> Local<Outside, MemorySource<Outside>, Shelf, Global, Kept> {
-    caller_over(rt, alloc, framed, Shelf::new(key(), true))
-}
-
-/// .. and over this shelf.
-fn caller_over(
-    rt: &impl Abort,
-    alloc: Global,
-    framed: &[u8],
-    shelf: Shelf,
-) -> Local<Outside, MemorySource<Outside>, Shelf, Global, Kept> {
+/// One caller over a source that has these bytes under the one key, and over this shelf.
+fn caller_over(rt: &impl Abort, alloc: Global, framed: &[u8], shelf: Shelf) -> Caller {
     let mut source = MemorySource::new(alloc);
     let framed = bytes(rt, alloc, framed).into_vec();
     source.insert(key().id, framed).expect(rt, "memory");
@@ -368,18 +405,33 @@ fn caller_over(
     Local::new(alloc, mount, source, Unloading::usual())
 }
 
-/// Whether a call is told that, and the next that the root is a directory, and the third that the history is full.
-fn tells(rt: &impl Abort, alloc: Global, framed: &[u8], answer: &Answer) -> bool {
-    let mut caller = caller(rt, alloc, framed);
-    let told = match caller.call(read(rt, alloc)) {
+/// Whether a call for the object is told that.
+fn reads(rt: &impl Abort, alloc: Global, caller: &mut Caller, answer: &Answer) -> bool {
+    match caller.call(read(rt, alloc)) {
         Ok(reply) => is_reply(answer, reply),
         Err(_) => false,
-    };
-    let next = caller.serve(Request::Kind(root(rt, alloc)));
-    let full = caller.serve(read(rt, alloc));
-    told && next.is_ok()
-        && is_reply(&IsRoot(2), caller.reply())
-        && full == Err(StartFault::HistoryFull(2))
+    }
+}
+
+/// Whether a call for the root's kind is served.
+fn serves_root(rt: &impl Abort, alloc: Global, caller: &mut Caller) -> bool {
+    caller.serve(Request::Kind(root(rt, alloc))).is_ok()
+}
+
+/// Whether the history is full with its two entries.
+fn is_full(rt: &impl Abort, alloc: Global, caller: &mut Caller) -> bool {
+    caller.serve(read(rt, alloc)) == Err(StartFault::HistoryFull(2))
+}
+
+/// Whether a call is told that, and the next that the root is a directory, and the third that the history is full.
+fn tells(rt: &impl Abort, alloc: Global, framed: &[u8], answer: &Answer) -> bool {
+    let mut caller = caller_over(rt, alloc, framed, Shelf::new(key(), true));
+    let tells = reads(rt, alloc, &mut caller, answer)
+        && serves_root(rt, alloc, &mut caller)
+        && is_full(rt, alloc, &mut caller)
+        && is_reply(&IsRoot(2), caller.reply());
+    drop(caller);
+    tells
 }
 
 #[test]
@@ -388,20 +440,47 @@ fn one_caller_is_told(rt: HostRuntime) {
     assert!(rt; tells(&rt, rt.alloc(), b"blob 0", &Faults(1, Cause::BadDigest)));
 }
 
+/// Whether a wait for the disk is told that, and leaves that reply.
+fn sync_leaves(caller: &mut Caller, safe: bool, answer: &Answer) -> bool {
+    caller.sync() == safe && is_reply(answer, caller.reply())
+}
+
+/// Whether waits for the disk before, between and after two requests are told that.
+fn syncs_thrice(rt: &impl Abort, alloc: Global, caller: &mut Caller, safe: bool) -> bool {
+    caller.sync() == safe
+        && caller.serve(read(rt, alloc)).is_ok()
+        && sync_leaves(caller, safe, &Reads(1))
+        && serves_root(rt, alloc, caller)
+        && sync_leaves(caller, safe, &IsRoot(2))
+}
+
+/// What is left of a caller's mount.
+fn left_of_caller(caller: Caller) -> Left {
+    let (mount, source) = caller.into_parts();
+    drop(source);
+    left_of(mount)
+}
+
+fn syncs(rt: &impl Abort, alloc: Global, safe: bool) -> bool {
+    let mut caller = caller_over(rt, alloc, b"blob 0\0", shelf_on_disk(safe));
+    let syncs = syncs_thrice(rt, alloc, &mut caller, safe);
+    let left = left_of_caller(caller);
+    syncs && left.entries == 2 && left.syncs == 3
+}
+
 /// A caller who waits for the disk is told what the table says of it. The last reply stays, and the next is as ever.
 #[test]
 fn one_caller_syncs(rt: HostRuntime) {
-    let alloc = rt.alloc();
-    for safe in [true, false] {
-        let mut caller = caller_over(&rt, alloc, b"blob 0\0", shelf_on_disk(safe));
-        assert!(rt; caller.sync() == safe);
-        assert!(rt; caller.serve(read(&rt, alloc)).is_ok());
-        assert!(rt; caller.sync() == safe && is_reply(&Reads(1), caller.reply()));
-        assert!(rt; caller.serve(Request::Kind(root(&rt, alloc))).is_ok());
-        assert!(rt; caller.sync() == safe && is_reply(&IsRoot(2), caller.reply()));
-        let (mount, _source) = caller.into_parts();
-        assert!(rt; mount.history().len() == 2 && mount.into_table().syncs == 3);
+    assert!(rt; syncs(&rt, rt.alloc(), true));
+    assert!(rt; syncs(&rt, rt.alloc(), false));
+}
+
+/// Serves twelve requests, and refuses one more.
+fn serve_twelve(rt: &impl Abort, alloc: Global, caller: &mut Caller) {
+    for _ in 0..12 {
+        assert!(rt; serves_root(rt, alloc, caller));
     }
+    assert!(rt; !serves_root(rt, alloc, caller));
 }
 
 /// How often directories are let go after every so many of twelve requests, of which one more is refused.
@@ -414,29 +493,26 @@ fn unloads(rt: &impl Abort, alloc: Global, every: u32) -> usize {
     let mount = mount(rt, alloc, 12, true);
     let source = MemorySource::<Outside>::new(alloc);
     let mut caller = Local::new(alloc, mount, source, unloading);
-    for _ in 0..12 {
-        assert!(rt; caller.serve(Request::Kind(root(rt, alloc))).is_ok());
-    }
-    assert!(rt; caller.serve(Request::Kind(root(rt, alloc))).is_err());
-    let (mount, _source) = caller.into_parts();
-    mount.into_table().unloads
+    serve_twelve(rt, alloc, &mut caller);
+    left_of_caller(caller).unloads
 }
+
+/// After every so many requests directories are let go, and how often.
+const TIMES: &[(u32, usize)] = &[
+    (0, 12),
+    (1, 12),
+    (2, 6),
+    (5, 2),
+    (12, 1),
+    (13, 0),
+    (u32::MAX, 0),
+];
 
 #[test]
 fn one_caller_lets_directories_go(rt: HostRuntime) {
-    let alloc = rt.alloc();
-    let times = [
-        (0, 12),
-        (1, 12),
-        (2, 6),
-        (5, 2),
-        (12, 1),
-        (13, 0),
-        (u32::MAX, 0),
-    ];
-    for (every, unloaded) in times {
+    for (every, unloaded) in TIMES {
         assert!(rt;
-            unloads(&rt, alloc, every) == unloaded,
+            unloads(&rt, rt.alloc(), *every) == *unloaded,
             "after every {every}"
         );
     }

@@ -206,7 +206,7 @@ const MODES_BODY: &[u8] =
     b"40000 g\0AAAAAAAAAAAAAAAAAAAA040000 f\0BBBBBBBBBBBBBBBBBBBB100644 e\0CCCCCCCCCCCCCCCCCCCC100664 d\0DDDDDDDDDDDDDDDDDDDD100755 c\0EEEEEEEEEEEEEEEEEEEE120000 b\0FFFFFFFFFFFFFFFFFFFF160000 a\0GGGGGGGGGGGGGGGGGGGG";
 
 /// A mode, the one letter of a name, and the letter of which its id is.
-static MODES: [(Mode, u8, u8); 7] = [
+const MODES: &[(Mode, u8, u8)] = &[
     (Mode::Dir, b'g', b'A'),
     (Mode::Dir, b'f', b'B'),
     (Mode::File, b'e', b'C'),
@@ -221,23 +221,34 @@ fn decoded(rt: &impl Abort, alloc: Global, body: &[u8]) -> Option<Vec<TreeEntry>
 }
 
 fn have_modes(entries: &[TreeEntry]) -> bool {
-    for (entry, (mode, name, id)) in entries.iter().zip(MODES.iter()) {
-        if !has(entry, *mode, &[*name], [*id; 20]) {
+    for (at, (mode, name, id)) in MODES.iter().enumerate() {
+        if !has(entries.get(at), *mode, &[*name], [*id; 20]) {
             return false;
         }
     }
     entries.len() == 7
 }
 
-#[test]
-fn every_mode(rt: HostRuntime) {
-    let entries = decoded(&rt, rt.alloc(), MODES_BODY).expect(&rt, "a tree");
-    assert!(rt; have_modes(entries.as_slice()));
+fn has_modes(rt: &impl Abort, alloc: Global, body: &[u8]) -> bool {
+    let entries = decoded(rt, alloc, body).expect(rt, "a tree");
+    let have_modes = have_modes(entries.as_slice());
+    drop(entries);
+    have_modes
 }
 
-// Whether the entry has that mode, that name and that id.
-fn has(entry: &TreeEntry, mode: Mode, name: &[u8], id: [u8; 20]) -> bool {
-    entry.mode == mode && entry.name.as_slice() == name && entry.id.bytes == id
+#[test]
+fn every_mode(rt: HostRuntime) {
+    assert!(rt; has_modes(&rt, rt.alloc(), MODES_BODY));
+}
+
+// Whether there is an entry, and it has that mode, that name and that id.
+fn has(entry: Option<&TreeEntry>, mode: Mode, name: &[u8], id: [u8; 20]) -> bool {
+    match entry {
+        Some(entry) => {
+            entry.mode == mode && entry.name.as_slice() == name && entry.id.bytes == id
+        }
+        None => false,
+    }
 }
 
 #[test]
@@ -246,9 +257,16 @@ fn bodies_of_blobs(rt: HostRuntime) {
     assert!(rt; decode_blob(b"tree 0\0") == None);
 }
 
+fn is_tree(rt: &impl Abort, alloc: Global, body: &[u8]) -> bool {
+    let entries = decoded(rt, alloc, body);
+    let is_tree = entries.is_some();
+    drop(entries);
+    is_tree
+}
+
 #[test]
 fn a_cut_body_is_no_tree(rt: HostRuntime) {
-    assert!(rt; decoded(&rt, rt.alloc(), b"100644 a").is_none());
+    assert!(rt; !is_tree(&rt, rt.alloc(), b"100644 a"));
 }
 
 // The object in bytes that are asked for under their own id.
@@ -259,15 +277,20 @@ fn object(rt: &impl Abort, alloc: Global, kind: ObjKind, framed: Vec<u8>) -> Obj
     Object::checked(alloc, Key { kind, id }, framed).expect(rt, "an object")
 }
 
-fn is_hello(hello: &Object) -> bool {
-    hello.kind() == ObjKind::Blob && hello.body() == b"hello\n".as_slice() && hello.len() == 6
+// Whether these framed bytes are the blob `hello`.
+fn is_hello(rt: &impl Abort, alloc: Global, framed: &[u8]) -> bool {
+    let copy = framed.to_vec(alloc).expect(rt, "memory");
+    let hello = object(rt, alloc, ObjKind::Blob, copy);
+    let is_hello = hello.kind() == ObjKind::Blob
+        && hello.body() == b"hello\n".as_slice()
+        && hello.len() == 6;
+    drop(hello);
+    is_hello && id_of(framed).bytes == HELLO
 }
 
 #[test]
 fn contents(rt: HostRuntime) {
-    let framed = b"blob 6\0hello\n".to_vec(rt.alloc()).expect(&rt, "memory");
-    assert!(rt; id_of(framed.as_slice()).bytes == HELLO);
-    assert!(rt; is_hello(&object(&rt, rt.alloc(), ObjKind::Blob, framed)));
+    assert!(rt; is_hello(&rt, rt.alloc(), b"blob 6\0hello\n"));
 }
 
 fn put(rt: &impl Abort, to: &mut Vec<u8>, bytes: &[u8]) {
@@ -294,13 +317,18 @@ fn tree_of(rt: &impl Abort, alloc: Global, names: &[&str]) -> Vec<u8> {
     }
     let mut framed = header(rt, alloc, body.len());
     put(rt, &mut framed, body.as_slice());
+    drop(body);
     framed
 }
 
-fn entry_count(rt: &impl Abort, alloc: Global, tree: &Object) -> usize
-    requires { tree.now.kind ≡ kinds.Tree }
+fn entry_count(rt: &impl Abort, alloc: Global, tree: Object) -> usize
+    requires { tree.kind ≡ kinds.Tree }
 {
-    tree.entries(alloc).expect(rt, "memory").len()
+    let entries = tree.entries(alloc).expect(rt, "memory");
+    let count = entries.len();
+    drop(entries);
+    drop(tree);
+    count
 }
 
 /// How many entries the framed tree has, where it is one, or why it is none.
@@ -310,7 +338,7 @@ fn checked(rt: &impl Abort, alloc: Global, framed: Vec<u8>) -> Result<usize, Cau
         id: id_of(framed.as_slice()),
     };
     match Object::checked(alloc, key, framed) {
-        Ok(tree) => Ok(entry_count(rt, alloc, &tree)),
+        Ok(tree) => Ok(entry_count(rt, alloc, tree)),
         Err(cause) => Err(cause),
     }
 }
@@ -325,7 +353,7 @@ fn entries_of(rt: &impl Abort, alloc: Global, names: &[&str]) -> Option<usize> {
 }
 
 /// Names in an order, and how many entries their tree has, where it is one.
-const ORDERS: [(&[&str], Option<usize>); 4] = [
+const ORDERS: &[(&[&str], Option<usize>)] = &[
     (&["a", "a.b", "b"], Some(3)),
     (&["b", "a.b", "a", "c"], Some(4)),
     (&["a", "b", "b"], None),
@@ -334,7 +362,7 @@ const ORDERS: [(&[&str], Option<usize>); 4] = [
 
 #[test]
 fn trees_in_each_order(rt: HostRuntime) {
-    for (names, count) in &ORDERS {
+    for (names, count) in ORDERS {
         assert!(rt; entries_of(&rt, rt.alloc(), names) == *count);
     }
 }
@@ -349,7 +377,7 @@ fn entry(rt: &impl Abort, alloc: Global, mode: Mode, name: &str, id: [u8; 20]) -
 }
 
 // The framed tree, which can be written.
-fn written(rt: &impl Abort, alloc: Global, entries: &[TreeEntry]) -> Vec<u8> {
+fn encoded(rt: &impl Abort, alloc: Global, entries: &[TreeEntry]) -> Vec<u8> {
     let is_tree = is_encodable(alloc, entries).expect(rt, "memory");
     assert!(rt; is_tree);
     encode_tree(alloc, entries).expect(rt, "memory")
@@ -367,52 +395,72 @@ fn entries(rt: &impl Abort, alloc: Global, rows: &[Row]) -> Vec<TreeEntry> {
     entries
 }
 
-static TWICE: [Row; 2] = [(Mode::Dir, "a", TREE_A), (Mode::File, "a", VERSION_1)];
+const TWICE: &[Row] = &[(Mode::Dir, "a", TREE_A), (Mode::File, "a", VERSION_1)];
+
+// The framed tree of these entries, which can be written.
+fn written(rt: &impl Abort, alloc: Global, rows: &[Row]) -> Vec<u8> {
+    let entries = entries(rt, alloc, rows);
+    let framed = encoded(rt, alloc, entries.as_slice());
+    drop(entries);
+    framed
+}
+
+fn can_be_written(rt: &impl Abort, alloc: Global, rows: &[Row]) -> bool {
+    let entries = entries(rt, alloc, rows);
+    let is_tree = is_encodable(alloc, entries.as_slice()).expect(rt, "memory");
+    drop(entries);
+    is_tree
+}
 
 #[test]
 fn names_that_come_twice_are_not_written(rt: HostRuntime) {
-    let entries = entries(&rt, rt.alloc(), &TWICE);
-    let is_tree = is_encodable(rt.alloc(), entries.as_slice()).expect(&rt, "memory");
-    assert!(rt; !is_tree);
+    assert!(rt; !can_be_written(&rt, rt.alloc(), TWICE));
+}
+
+// Whether these framed bytes have that length and that id.
+fn is_of(framed: Vec<u8>, len: usize, id: [u8; 20]) -> bool {
+    let is_of = framed.len() == len && id_of(framed.as_slice()).bytes == id;
+    drop(framed);
+    is_of
 }
 
 #[test]
 fn written_blobs_of_git(rt: HostRuntime) {
     let blob = encode_blob(rt.alloc(), b"version 1\n").expect(&rt, "memory");
-    assert!(rt; blob.len() == 18);
-    assert!(rt; id_of(blob.as_slice()).bytes == VERSION_1);
+    assert!(rt; is_of(blob, 18, VERSION_1));
 }
 
-static ENTRIES_A: [Row; 1] = [(Mode::File, "test.txt", VERSION_1)];
+const ENTRIES_A: &[Row] = &[(Mode::File, "test.txt", VERSION_1)];
 
-static ENTRIES_B: [Row; 3] = [
+const ENTRIES_B: &[Row] = &[
     (Mode::File, "test.txt", VERSION_2),
     (Mode::File, "new.txt", NEW_FILE),
     (Mode::Dir, "bak", TREE_A),
 ];
 
-// Whether that is the length of the tree of these entries, and that its id.
-fn is_written(rt: &impl Abort, alloc: Global, rows: &[Row], len: usize, id: [u8; 20]) -> bool {
-    let framed = written(rt, alloc, entries(rt, alloc, rows).as_slice());
-    framed.len() == len && id_of(framed.as_slice()).bytes == id
+// The tree of these entries has that length and that id.
+fn check_written(rt: &impl Abort, alloc: Global, rows: &[Row], len: usize, id: [u8; 20]) {
+    assert!(rt; is_of(written(rt, alloc, rows), len, id), "{len} bytes");
 }
 
 #[test]
 fn written_trees_of_git(rt: HostRuntime) {
     let alloc = rt.alloc();
-    assert!(rt; is_written(&rt, alloc, &[], 7, EMPTY_TREE));
-    assert!(rt; is_written(&rt, alloc, &ENTRIES_A, 44, TREE_A));
-    assert!(rt; is_written(&rt, alloc, &ENTRIES_B, 110, TREE_B));
+    check_written(&rt, alloc, &[], 7, EMPTY_TREE);
+    check_written(&rt, alloc, ENTRIES_A, 44, TREE_A);
+    check_written(&rt, alloc, ENTRIES_B, 110, TREE_B);
 }
 
 // What is written and read again.
 fn read_again(rt: &impl Abort, alloc: Global, rows: &[Row]) -> Vec<TreeEntry> {
-    let framed = written(rt, alloc, entries(rt, alloc, rows).as_slice());
+    let framed = written(rt, alloc, rows);
     let tree = object(rt, alloc, ObjKind::Tree, framed);
-    tree.entries(alloc).expect(rt, "memory")
+    let entries = tree.entries(alloc).expect(rt, "memory");
+    drop(tree);
+    entries
 }
 
-static EACH_MODE: [Row; 4] = [
+const EACH_MODE: &[Row] = &[
     (Mode::Dir, "a", TREE_A),
     (Mode::Exec, "a.b", VERSION_1),
     (Mode::Link, "c", HELLO),
@@ -420,7 +468,7 @@ static EACH_MODE: [Row; 4] = [
 ];
 
 /// The same as Git orders them.
-static ORDERED: [Row; 4] = [
+const ORDERED: &[Row] = &[
     (Mode::Exec, "a.b", VERSION_1),
     (Mode::Dir, "a", TREE_A),
     (Mode::Gitlink, "b", HELLO),
@@ -428,8 +476,8 @@ static ORDERED: [Row; 4] = [
 ];
 
 fn are_ordered(read: &[TreeEntry]) -> bool {
-    for (entry, (mode, name, id)) in read.iter().zip(ORDERED.iter()) {
-        if !has(entry, *mode, name.as_bytes(), *id) {
+    for (at, (mode, name, id)) in ORDERED.iter().enumerate() {
+        if !has(read.get(at), *mode, name.as_bytes(), *id) {
             return false;
         }
     }
@@ -439,6 +487,8 @@ fn are_ordered(read: &[TreeEntry]) -> bool {
 // `a` and `a.b` as Git orders them, where `a` is a directory. Each mode is written and read.
 #[test]
 fn written_trees_are_read(rt: HostRuntime) {
-    let read = read_again(&rt, rt.alloc(), &EACH_MODE);
-    assert!(rt; are_ordered(read.as_slice()));
+    let read = read_again(&rt, rt.alloc(), EACH_MODE);
+    let are_ordered = are_ordered(read.as_slice());
+    drop(read);
+    assert!(rt; are_ordered);
 }

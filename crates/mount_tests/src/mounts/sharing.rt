@@ -4,10 +4,10 @@ ghost use Rattle.eden_shared.specs.Lanes.{names_of};
 ghost use Rattle.eden_shared.specs.Opening.{AreTied};
 
 use crate::mounts::shelf::Shelf;
-use crate::mounts::{bytes, key, mount, mount_over, read, root, shelf_on_disk};
+use crate::mounts::{Mounted, bytes, key, left_of, mount_over, read, root, shelf_on_disk};
 use eden_history::Kept;
 use eden_model::{CallFault, Cause, Outside, Reply, Request};
-use eden_shared::{Fetched, Naming, Pass, Recording, Shared, Ties};
+use eden_shared::{Answered, Fetched, Naming, Pass, Recording, Shared, Ties};
 use eden_source::MemorySource;
 use std::alloc::Global;
 use std::marker::Brand;
@@ -24,7 +24,20 @@ fn open<J: Naming>(rt: &impl Abort, alloc: Global, ties: Ties) -> (Held<J>, Vec<
     requires ties { AreTied ties.lanes.items ties.ends.items 3 }
     requires names { names_of ties.lanes.items ≡ J.names }
 {
-    match Held::<J>::open(alloc, mount(rt, alloc, 9, true), ties) {
+    open_over::<J>(rt, alloc, Shelf::new(key(), true), ties)
+}
+
+/// .. over this shelf.
+fn open_over<J: Naming>(
+    rt: &impl Abort,
+    alloc: Global,
+    shelf: Shelf,
+    ties: Ties,
+) -> (Held<J>, Vec<Pass<J>>)
+    requires ties { AreTied ties.lanes.items ties.ends.items 3 }
+    requires names { names_of ties.lanes.items ≡ J.names }
+{
+    match Held::<J>::open(alloc, mount_over(rt, alloc, 9, shelf), ties) {
         Ok(opened) => opened,
         Err(_) => rt.abort(),
     }
@@ -55,8 +68,16 @@ fn ask_root_unkept<J: Naming, R: Wait + Abort>(
     shared: &Held<J>,
     pass: &mut Pass<J>,
 ) -> Result<u64, CallFault> {
-    let answer = pass.call(shared, rt, Request::Kind(root(rt, alloc)))?;
-    Ok(answer.number)
+    match pass.call(shared, rt, Request::Kind(root(rt, alloc))) {
+        Ok(answer) => Ok(number_of(answer)),
+        Err(fault) => Err(fault),
+    }
+}
+
+fn number_of(answer: Answered) -> u64 {
+    let number = answer.number;
+    drop(answer);
+    number
 }
 
 /// The sixth entry is awaited of a history of that length.
@@ -86,12 +107,23 @@ fn ask_before_it_is_known<J: Naming, R: Wait + Abort>(
 ) {
     second.learn(5);
     assert!(rt; second.pass().floor() == 6);
-    assert!(rt; ask_root(rt, alloc, shared, second) == awaits_more(0));
-    assert!(rt; ask_root(rt, alloc, shared, first) == Ok(1));
-    assert!(rt; ask_root(rt, alloc, shared, second) == awaits_more(1));
+    ask_for(rt, alloc, shared, second, awaits_more(0));
+    ask_for(rt, alloc, shared, first, Ok(1));
+    ask_for(rt, alloc, shared, second, awaits_more(1));
     shared.stop(rt);
-    assert!(rt; ask_root(rt, alloc, shared, first) == Err(CallFault::Stopped));
+    ask_for(rt, alloc, shared, first, Err(CallFault::Stopped));
     assert!(rt; first.told().len() == 1 && first.pass().floor() == 2);
+}
+
+/// A pass that asks of the root is told that.
+fn ask_for<J: Naming, R: Wait + Abort>(
+    rt: &R,
+    alloc: Global,
+    shared: &Held<J>,
+    pass: &mut Recording<J>,
+    want: Result<u64, CallFault>,
+) {
+    assert!(rt; ask_root(rt, alloc, shared, pass) == want);
 }
 
 /// The passes of a mount.
@@ -135,23 +167,47 @@ fn tear<J: Naming, R: Wait + Abort>(rt: &R, alloc: Global, ties: Ties)
     requires names { names_of ties.lanes.items ≡ J.names }
 {
     let (shared, mut passes) = open::<J>(rt, alloc, ties);
-    let mut kept = passes.pop().expect(rt, "a pass");
+    let kept = passes.pop().expect(rt, "a pass");
     drop(passes.pop());
-    let first = passes.first_mut().expect(rt, "a pass");
-    assert!(rt; ask_root_unkept(rt, alloc, &shared, first) == Ok(1));
-    let fetched = shared.fetch_one(rt, &mut MemorySource::<Outside>::new(alloc));
-    assert!(rt; fetched == Fetched::Nothing);
+    ask_and_fetch_nothing(rt, alloc, &shared, passes.first_mut());
     check_torn(rt, shared, passes);
-    assert!(rt; has_floor(Some(&kept), 1));
+    check_kept(rt, alloc, kept);
+}
+
+/// The pass asks of the root, and nothing is to be fetched.
+fn ask_and_fetch_nothing<J: Naming, R: Wait + Abort>(
+    rt: &R,
+    alloc: Global,
+    shared: &Held<J>,
+    pass: Option<&mut Pass<J>>,
+) {
+    let pass = pass.expect(rt, "a pass");
+    let number = ask_root_unkept(rt, alloc, shared, pass);
+    let mut source = MemorySource::<Outside>::new(alloc);
+    let fetched = shared.fetch_one(rt, &mut source);
+    drop(source);
+    assert!(rt; number == Ok(1) && fetched == Fetched::Nothing);
+}
+
+/// The pass has learnt nothing yet. Once it learnt a number it isn't recorded.
+fn check_kept<J: Naming>(rt: &impl Abort, alloc: Global, mut kept: Pass<J>) {
+    let floor = kept.floor();
     kept.learn(1);
-    assert!(rt; Recording::new(alloc, kept).is_err());
+    drop(Recording::new(alloc, kept).err().expect(rt, "no recording"));
+    assert!(rt; floor == 1);
+}
+
+/// Whether that is a mount with one entry and its one pass.
+fn is_torn<J: Naming>(mount: &Mounted, passes: &[Pass<J>]) -> bool {
+    mount.history().len() == 1 && passes.len() == 1 && has_floor(passes.first(), 2)
 }
 
 /// The one pass that is left comes back, and the mount with its one entry.
 fn check_torn<J: Naming>(rt: &impl Abort, shared: Held<J>, passes: Vec<Pass<J>>) {
     let torn = shared.finish(passes).err().expect(rt, "no whole mount");
-    assert!(rt; torn.mount.history().len() == 1 && torn.passes.len() == 1);
-    assert!(rt; has_floor(torn.passes.first(), 2));
+    let is_torn = is_torn(&torn.mount, torn.passes.as_slice());
+    drop(torn);
+    assert!(rt; is_torn);
 }
 
 /// Whether there is the pass, and its next entry is to have that number or a later one.
@@ -222,7 +278,9 @@ fn fetch<J: Naming, R: Wait + Abort>(
     shared: &Held<J>,
     is_stopped: &AtomicBool,
 ) {
-    shared.fetch_all(rt, &mut source(rt, alloc, true));
+    let mut source = source(rt, alloc, true);
+    shared.fetch_all(rt, &mut source);
+    drop(source);
     assert!(rt; is_stopped.load(Ordering::SeqCst));
 }
 
@@ -254,8 +312,10 @@ fn fetch_next<J: Naming, R: Wait + Abort>(
     comes: Fetched,
 ) {
     let mut source = source(rt, alloc, has);
-    assert!(rt; fetch_in_time(rt, shared, &mut source) == comes);
-    assert!(rt; shared.fetch_one(rt, &mut source) == Fetched::Nothing);
+    let first = fetch_in_time(rt, shared, &mut source);
+    let second = shared.fetch_one(rt, &mut source);
+    drop(source);
+    assert!(rt; first == comes && second == Fetched::Nothing);
 }
 
 /// Two fetchers on threads of their own.
@@ -294,6 +354,23 @@ fn race<J: Naming + Send + Sync, R: Threads + Wait + Abort + Sync>(
     assert!(rt; entries(rt, alloc, shared, three) == 6);
 }
 
+/// A caller waits while one key is fetched by a source that has it, or lacks it.
+fn meet_once<J: Naming + Send + Sync, R: Threads + Wait + Abort + Sync>(
+    rt: &R,
+    alloc: Global,
+    shared: &Held<J>,
+    pass: &mut Recording<J>,
+    has: bool,
+    comes: Fetched,
+) {
+    let (read, ()) = join(
+        rt,
+        || reads(rt, alloc, shared, pass),
+        || fetch_next(rt, alloc, shared, has, comes),
+    );
+    assert!(rt; read == has);
+}
+
 /// A caller waits while one key is fetched: first no source has it, and then one has.
 fn meet<J: Naming + Send + Sync, R: Threads + Wait + Abort + Sync>(
     rt: &R,
@@ -305,19 +382,12 @@ fn meet<J: Naming + Send + Sync, R: Threads + Wait + Abort + Sync>(
 {
     let (shared, mut passes) = open::<J>(rt, alloc, ties);
     let mut pass = recording(rt, alloc, passes.pop());
-    let lock = &shared;
-    let rows = [
-        (false, Fetched::Failed(key(), Cause::Missing)),
-        (true, Fetched::Stored(key())),
-    ];
-    for (has, comes) in rows {
-        let (read, ()) = join(
-            rt,
-            || reads(rt, alloc, lock, &mut pass),
-            || fetch_next(rt, alloc, lock, has, comes),
-        );
-        assert!(rt; read == has);
-    }
+    let fails = Fetched::Failed(key(), Cause::Missing);
+    meet_once(rt, alloc, &shared, &mut pass, false, fails);
+    meet_once(rt, alloc, &shared, &mut pass, true, Fetched::Stored(key()));
+    drop(pass);
+    drop(passes);
+    drop(shared);
 }
 
 /// Whoever waits for the disk is told what the table says of it, and the passes are told what they are told without.
@@ -325,25 +395,33 @@ fn sync<J: Naming, R: Wait + Abort>(rt: &R, alloc: Global, ties: Ties, safe: boo
     requires ties { AreTied ties.lanes.items ties.ends.items 3 }
     requires names { names_of ties.lanes.items ≡ J.names }
 {
-    let mount = mount_over(rt, alloc, 9, shelf_on_disk(safe));
-    let Ok((shared, passes)) = Held::<J>::open(alloc, mount, ties) else {
-        rt.abort();
-    };
+    let (shared, passes) = open_over::<J>(rt, alloc, shelf_on_disk(safe), ties);
     let mut three = three_of(rt, alloc, passes);
-    assert!(rt; shared.sync(rt) == safe);
-    assert!(rt; ask_root(rt, alloc, &shared, &mut three.first) == Ok(1));
-    assert!(rt; shared.sync(rt) == safe);
-    assert!(rt; ask_root(rt, alloc, &shared, &mut three.second) == Ok(2));
+    sync_and_ask(rt, alloc, &shared, &mut three.first, safe, 1);
+    sync_and_ask(rt, alloc, &shared, &mut three.second, safe, 2);
     let ended = shared.finish(backwards(rt, alloc, three));
-    let mount = ended.ok().expect(rt, "each pass");
-    assert!(rt; mount.history().len() == 2 && mount.into_table().syncs == 2);
+    let left = left_of(ended.ok().expect(rt, "each pass"));
+    assert!(rt; left.entries == 2 && left.syncs == 2);
+}
+
+/// A wait for the disk is told that, and then the pass is told of the root as the entry of that number.
+fn sync_and_ask<J: Naming, R: Wait + Abort>(
+    rt: &R,
+    alloc: Global,
+    shared: &Held<J>,
+    pass: &mut Recording<J>,
+    safe: bool,
+    number: u64,
+) {
+    assert!(rt; shared.sync(rt) == safe);
+    ask_for(rt, alloc, shared, pass, Ok(number));
 }
 
 #[test]
 fn shared_mounts_sync(rt: HostRuntime) {
-    for safe in [true, false] {
+    for safe in &[true, false] {
         let ties = Ties::new(rt.alloc(), 3).expect(&rt, "memory");
-        sync::<Brand, HostRuntime>(&rt, rt.alloc(), ties, safe);
+        sync::<Brand, HostRuntime>(&rt, rt.alloc(), ties, *safe);
     }
 }
 
