@@ -1,13 +1,16 @@
 //! A directory in a journal: what changes in it is noted alone, and makes its body again.
-use crate::folders::{damage, folder_of};
+use crate::folders::{damage, folder_of, remove};
 use crate::formats::{NEW_DIRECTORY, told};
-use crate::journals::{InFolder, before_reserve, left, of_length, opened};
-use crate::kinds::{Answer, Call, gives_all};
+use crate::journals::{opened, records_of, take_in, write_journal};
+use crate::kinds::{Answer, Call, reads};
+use crate::steps::{Step, of_length};
+use crate::told::require;
+use eden_model::Outside;
 use eden_overlay::{Files, FilesFault};
 use eden_overlay_format::Identifier;
 use std::alloc::{AllocError, Global};
-use std::fs;
 use std::path::PathBuf;
+use std::process::Abort;
 
 // The record that file 5 is a directory's, whose body is a count of 1 and `ab`.
 const NOTED: &[u8] = b"\
@@ -124,30 +127,28 @@ const AFTER_MOVE: &[u8] = b"\
     \x00\x00\x00\x01\x62\x63";
 
 // Journals, and what file 5 has by them.
-const JOURNALS: &[(&[u8], Option<&[u8]>)] = &[
-    (NOTED, Some(BEFORE)),
-    (CHANGED, Some(AFTER)),
-    (MISPLACED, Some(BEFORE)),
-    (TOO_LONG, Some(BEFORE)),
-    (MOVED, Some(AFTER_MOVE)),
-    (CUT_OFF, Some(BEFORE)),
-    (ALONE, None),
+const JOURNALS: &[(&[u8], &[Step])] = &[
+    (NOTED, HAS_BEFORE),
+    (CHANGED, HAS_AFTER),
+    (MISPLACED, HAS_BEFORE),
+    (TOO_LONG, HAS_BEFORE),
+    (MOVED, HAS_AFTER_MOVE),
+    (CUT_OFF, HAS_BEFORE),
+    (ALONE, HAS_NOTHING),
 ];
 
-// Whether the journal is taken in, by which file 5 has that; None where that isn't known.
-fn is_taken_as(rt: &HostRuntime, journal: &[u8], want: Option<&'static [u8]>) -> Option<bool> {
-    let folder = left(rt, "journal-parts", journal).ok()?;
-    let mut files = opened(rt, &folder).ok()?;
-    let asked = [(Call::Read(5), Answer::Bytes(want))];
-    let is_taken = gives_all(&mut files, rt.alloc(), &asked);
-    fs::remove_dir_all(rt, folder.as_path()).ok()?;
-    Some(is_taken)
-}
+const HAS_BEFORE: &[Step] = &[Step::Gives(Call::Read(5), Answer::Bytes(Some(BEFORE)))];
+
+const HAS_AFTER: &[Step] = &[Step::Gives(Call::Read(5), Answer::Bytes(Some(AFTER)))];
+
+const HAS_AFTER_MOVE: &[Step] = &[Step::Gives(Call::Read(5), Answer::Bytes(Some(AFTER_MOVE)))];
+
+const HAS_NOTHING: &[Step] = &[Step::Gives(Call::Read(5), Answer::Bytes(None))];
 
 #[test]
 fn a_change_makes_the_body_again(rt: HostRuntime) {
-    for (journal, want) in JOURNALS {
-        assert!(rt; is_taken_as(&rt, journal, *want) == Some(true));
+    for (journal, steps) in JOURNALS {
+        take_in(&rt, &rt, "journal-parts", journal, steps);
     }
 }
 
@@ -163,31 +164,51 @@ const LAST: &[u8] = b"\x00\x00\x00\x00\x00\x00\x00\x1d\
     \x00\x00\x00\x00\x00\x00\x08\x99\x00\x00\x00\x00\x00\x00\x07\xcb\x00\x00\x00\x00\x00\x00\x00\x00\
     \x08\x07\x07\x07\x08";
 
-// The records of the folder's journal, which have that many bytes; None where it isn't so.
-fn records_of(rt: &HostRuntime, folder: &PathBuf, len: usize) -> Option<Vec<u8>> {
-    let path = folder.join(rt.alloc(), "journal").ok()?;
-    before_reserve(fs::read(rt, path.as_path()).ok()?, len)
-}
-
-// Changes the last of the journal's records, which have that many bytes.
-fn damage_record(rt: &HostRuntime, folder: &PathBuf, len: usize) -> Option<()> {
-    let records = records_of(rt, folder, len)?;
-    let path = folder.join(rt.alloc(), "journal").ok()?;
-    fs::write(rt, path.as_path(), records.as_slice()).ok()?;
-    damage(rt, folder, "journal").ok()
-}
-
 // Whether file 9 becomes a directory's with that body.
-fn stores(rt: &HostRuntime, files: &mut InFolder, body: &[u8]) -> bool {
-    files.replace_body(rt.alloc(), 9, Identifier::Directory, body) == Ok(())
+fn stores<F: Files<Outside>>(files: &mut F, alloc: Global, body: &[u8]) -> bool {
+    files.replace_body(alloc, 9, Identifier::Directory, body) == Ok(())
 }
 
-// Whether file 9 has these bytes.
-fn reads(rt: &HostRuntime, files: &mut InFolder, want: &Vec<u8>) -> bool {
-    match files.read(rt.alloc(), 9) {
-        Ok(Some(file)) => file == *want,
-        _ => false,
+// Whether the body is stored, and again each time that one of four bytes has become 8.
+fn changes_often<F: Files<Outside>>(files: &mut F, alloc: Global, body: &mut [u8]) -> bool {
+    if !stores(files, alloc, body) {
+        return false;
     }
+    for at in &[0, 4, 999, 1999] {
+        if let Some(byte) = body.get_mut(*at) {
+            *byte = 8;
+        }
+        if !stores(files, alloc, body) {
+            return false;
+        }
+    }
+    true
+}
+
+// File 9 has these bytes, and has them once the folder is opened again.
+fn find_nine<F: Files<Outside>>(
+    rt: &impl Abort,
+    system: &HostRuntime,
+    folder: &PathBuf,
+    files: F,
+    want: &[u8],
+) {
+    let mut files = files;
+    require(rt, reads(&mut files, system.alloc(), 9, want), "file 9");
+    drop(files);
+    let files = opened(system, folder).expect(rt, "files");
+    require(rt, has_nine(files, system.alloc(), want), "file 9 again");
+}
+
+fn has_nine<F: Files<Outside>>(files: F, alloc: Global, want: &[u8]) -> bool {
+    let mut files = files;
+    reads(&mut files, alloc, 9, want)
+}
+
+// The folder's journal has records of that many bytes, and those at their end.
+fn end_in(rt: &impl Abort, system: &HostRuntime, folder: &PathBuf, len: usize, end: &[u8]) {
+    let records = records_of(rt, system, folder, len);
+    require(rt, records.ends_with(end), "the last record");
 }
 
 #[test]
@@ -195,22 +216,16 @@ fn what_changes_in_a_directory_is_noted_alone(rt: HostRuntime) {
     let folder = folder_of(&rt, "journal-changed", &[]).expect(&rt, "a folder");
     let mut files = opened(&rt, &folder).expect(&rt, "files");
     let mut body = of_length(rt.alloc(), 2000).expect(&rt, "memory");
-    assert!(rt; stores(&rt, &mut files, &body));
-    for at in [0, 4, 999, 1999] {
-        if let Some(byte) = body.get_mut(at) {
-            *byte = 8;
-        }
-        assert!(rt; stores(&rt, &mut files, &body));
-    }
+    require(
+        &rt,
+        changes_often(&mut files, rt.alloc(), &mut body),
+        "bodies stored",
+    );
     // The whole body, a count, and three times a byte.
-    let records = records_of(&rt, &folder, 2048 + 76 + 3 * 77).expect(&rt, "so many records");
-    assert!(rt; records.ends_with(LAST));
+    end_in(&rt, &rt, &folder, 2048 + 76 + 3 * 77, LAST);
     let want = told(&rt, rt.alloc(), &NEW_DIRECTORY, &DIGEST, 0, &body);
-    assert!(rt; reads(&rt, &mut files, &want));
-    drop(files);
-    let mut files = opened(&rt, &folder).expect(&rt, "files");
-    assert!(rt; reads(&rt, &mut files, &want));
-    fs::remove_dir_all(&rt, folder.as_path()).expect(&rt, "a folder");
+    find_nine(&rt, &rt, &folder, files, &want);
+    remove(&rt, folder).expect(&rt, "a folder");
 }
 
 // The SHA-1 of a count of 250 and 250 rows, each its number in 8 bytes, of which row 5 stands behind row 200.
@@ -237,32 +252,63 @@ fn rows(alloc: Global, is_moved: bool) -> Result<Vec<u8>, AllocError> {
 fn a_move_is_noted_in_two_places(rt: HostRuntime) {
     let folder = folder_of(&rt, "journal-moved", &[]).expect(&rt, "a folder");
     let mut files = opened(&rt, &folder).expect(&rt, "files");
-    let body = rows(rt.alloc(), false).expect(&rt, "memory");
-    assert!(rt; stores(&rt, &mut files, &body));
-    let body = rows(rt.alloc(), true).expect(&rt, "memory");
-    assert!(rt; stores(&rt, &mut files, &body));
+    let before = rows(rt.alloc(), false).expect(&rt, "memory");
+    require(
+        &rt,
+        stores(&mut files, rt.alloc(), &before),
+        "a body stored",
+    );
+    let after = rows(rt.alloc(), true).expect(&rt, "memory");
+    require(
+        &rt,
+        stores(&mut files, rt.alloc(), &after),
+        "a body stored again",
+    );
     // The whole body; then a length and twice what stays, and the row that came.
-    let len = 48 + body.len() + 48 + 8 + 2 * 28 + 8;
-    assert!(rt; records_of(&rt, &folder, len).is_some());
-    let want = told(&rt, rt.alloc(), &NEW_DIRECTORY, &MOVED_DIGEST, 0, &body);
-    assert!(rt; reads(&rt, &mut files, &want));
-    drop(files);
-    let mut files = opened(&rt, &folder).expect(&rt, "files");
-    assert!(rt; reads(&rt, &mut files, &want));
-    fs::remove_dir_all(&rt, folder.as_path()).expect(&rt, "a folder");
+    end_in(
+        &rt,
+        &rt,
+        &folder,
+        48 + after.len() + 48 + 8 + 2 * 28 + 8,
+        b"",
+    );
+    let want = told(&rt, rt.alloc(), &NEW_DIRECTORY, &MOVED_DIGEST, 0, &after);
+    find_nine(&rt, &rt, &folder, files, &want);
+    remove(&rt, folder).expect(&rt, "a folder");
 }
 
-// Whether a read of file 9 tells that the disk has changed it.
-fn is_told_damaged(rt: &HostRuntime, files: &mut InFolder) -> bool {
-    files.read(rt.alloc(), 9).err() == Some(FilesFault::Device)
+// Changes the last of the journal's records, which have that many bytes.
+fn damage_record(rt: &impl Abort, system: &HostRuntime, folder: &PathBuf, len: usize) {
+    let records = records_of(rt, system, folder, len);
+    write_journal(system, folder, &records).expect(rt, "a journal");
+    damage(system, folder, "journal").expect(rt, "a journal");
+}
+
+// A read of file 9 tells that the disk has changed the record of its body.
+fn tell_damage<F: Files<Outside>>(
+    rt: &impl Abort,
+    system: &HostRuntime,
+    folder: &PathBuf,
+    files: F,
+) {
+    let mut files = files;
+    require(
+        rt,
+        stores(&mut files, system.alloc(), b"\0\0\0\x01ab"),
+        "a body stored",
+    );
+    damage_record(rt, system, folder, 48 + 6);
+    let fault = files.read(system.alloc(), 9).err();
+    require(
+        rt,
+        fault == Some(FilesFault::Device),
+        "told as the device's",
+    );
 }
 
 #[test]
 fn a_damaged_record_shows_no_other_directory(rt: HostRuntime) {
     let folder = folder_of(&rt, "journal-damaged", &[]).expect(&rt, "a folder");
-    let mut files = opened(&rt, &folder).expect(&rt, "files");
-    assert!(rt; stores(&rt, &mut files, b"\0\0\0\x01ab"));
-    damage_record(&rt, &folder, 48 + 6).expect(&rt, "a journal");
-    assert!(rt; is_told_damaged(&rt, &mut files));
-    fs::remove_dir_all(&rt, folder.as_path()).expect(&rt, "a folder");
+    tell_damage(&rt, &rt, &folder, opened(&rt, &folder).expect(&rt, "files"));
+    remove(&rt, folder).expect(&rt, "a folder");
 }

@@ -1,7 +1,8 @@
 //! What the system does, which no clause can say: on real files, and on a file system that fails.
 ghost use Rattle.std.specs.Prelude.{◌≤◌};
 
-use crate::folders::{Made, folder_of, make};
+use crate::folders::{Made, folder_of, make, remove};
+use crate::told::require;
 use eden_model::Obstacle;
 use eden_plain_files::{
     Durability, FolderFault, Links, entry_in, read_file, read_within, remove_file, replace_file,
@@ -67,18 +68,19 @@ const FILES: &[(&str, Made)] = &[
     ("leads to folder", Made::Link("folder")),
 ];
 
-fn is_outcome(answer: &Result<Vec<u8>, FolderFault>, want: Outcome) -> bool {
-    match (answer, want) {
-        (Ok(bytes), Ok(want)) => bytes.as_slice() == want,
-        (Err(fault), Err(want)) => *fault == want,
-        _ => false,
-    }
+fn is_outcome(answer: Result<Vec<u8>, FolderFault>, want: Outcome) -> bool {
+    let is_so = match &answer {
+        Ok(bytes) => want == Ok(bytes.as_slice()),
+        Err(fault) => want == Err(*fault),
+    };
+    drop(answer);
+    is_so
 }
 
 // Whether a read gives that.
 fn gives(rt: &HostRuntime, path: &str, links: Links, longest: u32, want: Outcome) -> bool {
     let answer = read_file(rt, rt.alloc(), path, links, u64::from(longest));
-    is_outcome(&answer, want)
+    is_outcome(answer, want)
 }
 
 // Whether reads give the one where links are refused, and the other where they are followed.
@@ -98,15 +100,17 @@ fn plain_files_are_read_whole(rt: HostRuntime) {
     let folder = folder_of(&rt, "read", FILES).expect(&rt, "files");
     for (name, longest, refused, followed) in READS {
         let path = folder.join(rt.alloc(), name).expect(&rt, "memory");
-        assert!(rt; give(&rt, &path, *longest, *refused, *followed));
+        let is_so = give(&rt, &path, *longest, *refused, *followed);
+        drop(path);
+        require(&rt, is_so, name);
     }
-    fs::remove_dir_all(&rt, folder.as_path()).expect(&rt, "a folder");
+    remove(&rt, folder).expect(&rt, "a folder");
 }
 
 // Whether a read within 5 bytes gives that in such a system.
 fn gives_in(system: FaultySystem<&HostRuntime>, path: &str, links: Links, want: Outcome) -> bool {
     let answer = read_file(&system, system.files.alloc(), path, links, 5);
-    is_outcome(&answer, want)
+    is_outcome(answer, want)
 }
 
 // Whether a pipe is no plain file where it stands in the place of a file that was looked at.
@@ -136,13 +140,21 @@ fn a_pipe_is_no_file(rt: HostRuntime) {
     let (reader, mut writer) = io::pipe(&rt).expect(&rt, "a pipe");
     writer.write_all(b"piped").expect(&rt, "room in the pipe");
     let pipe = path_of(&rt, &reader).expect(&rt, "memory");
-    assert!(rt; gives(&rt, pipe.as_str(), Links::Followed, 5, NOT_PLAIN));
+    require(
+        &rt,
+        gives(&rt, pipe.as_str(), Links::Followed, 5, NOT_PLAIN),
+        "a pipe",
+    );
     let folder = folder_with(&rt, "pipe", "file", b"hello").expect(&rt, "a file");
     let file = folder.join(rt.alloc(), "file").expect(&rt, "memory");
-    for links in [Links::Refused, Links::Followed] {
-        assert!(rt; is_told_swapped(&rt, file.as_str(), pipe.as_str(), links));
+    for links in &[Links::Refused, Links::Followed] {
+        let is_told = is_told_swapped(&rt, file.as_str(), pipe.as_str(), *links);
+        require(&rt, is_told, "a pipe in a file's place");
     }
-    fs::remove_dir_all(&rt, folder.as_path()).expect(&rt, "a folder");
+    drop(file);
+    remove(&rt, folder).expect(&rt, "a folder");
+    drop(reader);
+    drop(writer);
 }
 
 // Whether a read gives that where those calls fail.
@@ -160,13 +172,19 @@ fn is_failed_read(rt: &HostRuntime, path: &str, call: Call) -> bool {
 fn failed_reads_are_told(rt: HostRuntime) {
     let folder = folder_with(&rt, "failed-reads", "file", b"hello").expect(&rt, "a file");
     let file = folder.join(rt.alloc(), "file").expect(&rt, "memory");
-    for call in [Call::Look, Call::Open, Call::LookAtOpen, Call::Read] {
-        assert!(rt; is_failed_read(&rt, file.as_str(), call));
+    for call in &[Call::Look, Call::Open, Call::LookAtOpen, Call::Read] {
+        require(
+            &rt,
+            is_failed_read(&rt, file.as_str(), *call),
+            "a failed read told",
+        );
     }
     // A file that may not be written is read all the same.
     let kind = ErrorKind::PermissionDenied;
-    assert!(rt; gives_with(&rt, file.as_str(), Call::OpenToWrite, kind, HELLO));
-    fs::remove_dir_all(&rt, folder.as_path()).expect(&rt, "a folder");
+    let is_read = gives_with(&rt, file.as_str(), Call::OpenToWrite, kind, HELLO);
+    require(&rt, is_read, "a file that may not be written");
+    drop(file);
+    remove(&rt, folder).expect(&rt, "a folder");
 }
 
 // Gives some bytes, and then fails.
@@ -198,18 +216,24 @@ fn gives_within<R: Read + Drop>(
     requires { expected ≤ longest }
 {
     let answer = read_within(alloc, reader, u64::from(expected), u64::from(longest));
-    is_outcome(&answer, want)
+    is_outcome(answer, want)
 }
+
+// How a read fails in its middle, and what is told.
+const CUTS: &[(ErrorKind, Outcome)] = &[
+    (ErrorKind::ConnectionReset, DEVICE),
+    (ErrorKind::NotFound, DEVICE),
+    (ErrorKind::OutOfMemory, MEMORY),
+];
 
 #[test]
 fn a_cut_read_is_no_file(rt: HostRuntime) {
-    for (kind, want) in [
-        (ErrorKind::ConnectionReset, DEVICE),
-        (ErrorKind::NotFound, DEVICE),
-        (ErrorKind::OutOfMemory, MEMORY),
-    ] {
-        let reader = Breaking { left: 3, kind };
-        assert!(rt; gives_within(rt.alloc(), reader, 10, 10, want));
+    for (kind, want) in CUTS {
+        let reader = Breaking {
+            left: 3,
+            kind: *kind,
+        };
+        assert!(rt; gives_within(rt.alloc(), reader, 10, 10, *want));
     }
 }
 
@@ -233,7 +257,7 @@ fn replaces_over_link(rt: &HostRuntime, file: &str, new: &PathBuf, target: &str)
 
 // Whether no link is in the way of the file's replacement.
 fn replaces_over_links(rt: &HostRuntime, file: &str, new: &PathBuf) -> bool {
-    for target in ["other", "nothing", "/dev/full", "/proc/self/fd/0"] {
+    for target in &["other", "nothing", "/dev/full", "/proc/self/fd/0"] {
         if !replaces_over_link(rt, file, new, target) {
             return false;
         }
@@ -259,12 +283,23 @@ fn a_replacement_is_a_new_file(rt: HostRuntime) {
     let folder = folder_with(&rt, "replaced", "other", b"other").expect(&rt, "a file");
     let file = folder.join(rt.alloc(), "file").expect(&rt, "memory");
     let new = folder.join(rt.alloc(), "file.new").expect(&rt, "memory");
-    assert!(rt; replaces_over_links(&rt, file.as_str(), &new));
+    require(
+        &rt,
+        replaces_over_links(&rt, file.as_str(), &new),
+        "over links",
+    );
+    drop(new);
     let other = folder.join(rt.alloc(), "other").expect(&rt, "memory");
-    assert!(rt; holds(&rt, other.as_str(), b"other"));
+    require(&rt, holds(&rt, other.as_str(), b"other"), "the other file");
+    drop(other);
     make(&rt, &folder, "file.new", Made::Folder).expect(&rt, "a folder");
-    assert!(rt; stays(&rt, file.as_str(), b"/proc/self/fd/0"));
-    fs::remove_dir_all(&rt, folder.as_path()).expect(&rt, "a folder");
+    require(
+        &rt,
+        stays(&rt, file.as_str(), b"/proc/self/fd/0"),
+        "a folder in the way",
+    );
+    drop(file);
+    remove(&rt, folder).expect(&rt, "a folder");
 }
 
 // How a call fails, and how a replacement and a removal tell it.
@@ -333,14 +368,17 @@ fn is_removed(rt: &HostRuntime, path: &str) -> bool {
 fn failed_changes_are_told(rt: HostRuntime) {
     let folder = folder_of(&rt, "failed-changes", &[]).expect(&rt, "a folder");
     let file = folder.join(rt.alloc(), "file").expect(&rt, "memory");
-    assert!(rt; becomes_old(&rt, file.as_str()));
+    require(&rt, becomes_old(&rt, file.as_str()), "the old file");
     for (kind, of_replacement, of_removal) in KINDS {
-        assert!(rt; replacements_fail(&rt, file.as_str(), *kind, *of_replacement));
-        assert!(rt; removal_fails(&rt, file.as_str(), *kind, *of_removal));
+        let is_told = replacements_fail(&rt, file.as_str(), *kind, *of_replacement);
+        require(&rt, is_told, "a failed replacement told");
+        let is_told = removal_fails(&rt, file.as_str(), *kind, *of_removal);
+        require(&rt, is_told, "a failed removal told");
     }
-    assert!(rt; is_removed(&rt, file.as_str()));
-    assert!(rt; is_removed(&rt, file.as_str()));
-    fs::remove_dir_all(&rt, folder.as_path()).expect(&rt, "a folder");
+    require(&rt, is_removed(&rt, file.as_str()), "removed");
+    require(&rt, is_removed(&rt, file.as_str()), "removed again");
+    drop(file);
+    remove(&rt, folder).expect(&rt, "a folder");
 }
 
 // What an item of a listing is.
@@ -391,9 +429,18 @@ fn lists_one(rt: &HostRuntime, folder: &PathBuf, call: Call) -> Result<bool, Fol
 #[test]
 fn names_are_listed(rt: HostRuntime) {
     let folder = folder_with(&rt, "names", "a", b"").expect(&rt, "a file");
-    assert!(rt; lists_one(&rt, &folder, Call::None) == Ok(true));
-    assert!(rt; lists_one(&rt, &folder, Call::List) == Err(FolderFault::Device));
-    fs::remove_dir_all(&rt, folder.as_path()).expect(&rt, "a folder");
+    require(
+        &rt,
+        lists_one(&rt, &folder, Call::None) == Ok(true),
+        "both names",
+    );
+    let failed = Err(FolderFault::Device);
+    require(
+        &rt,
+        lists_one(&rt, &folder, Call::List) == failed,
+        "a failed listing told",
+    );
+    remove(&rt, folder).expect(&rt, "a folder");
 }
 
 // A file longer than the room that its length asked for, as one that grew: ten times 64 KiB.
@@ -401,6 +448,8 @@ fn names_are_listed(rt: HostRuntime) {
 fn grown_files_are_read(rt: HostRuntime) {
     let long = [7; 65536].repeat(rt.alloc(), 10).expect(&rt, "memory");
     let whole = Ok(long.as_slice());
-    assert!(rt; gives_within(rt.alloc(), long.as_slice(), 100, 655_360, whole));
-    assert!(rt; gives_within(rt.alloc(), long.as_slice(), 100, 655_359, TOO_LONG));
+    let is_read = gives_within(rt.alloc(), long.as_slice(), 100, 655_360, whole);
+    require(&rt, is_read, "read whole");
+    let is_told = gives_within(rt.alloc(), long.as_slice(), 100, 655_359, TOO_LONG);
+    require(&rt, is_told, "a byte too long");
 }

@@ -5,6 +5,7 @@ ghost use Rattle.eden_overlay_format.specs.Directory.{AreStorable, HasOrigin, is
 ghost use Rattle.eden_overlay_format.specs.Numbers.{none_is_own};
 ghost use Rattle.eden_model.specs.declared.kind.Kind.TheVariants as kind;
 
+use crate::told::require;
 use eden_model::{Id, Kind, Name, Origin};
 use eden_overlay_format::{
     DecodeFault, Identifier, Listing, Refusal, Spliced, State, StoredEntry, decode_dir,
@@ -80,13 +81,24 @@ fn refusal_of(rt: &impl Abort, file: &[u8], len: usize) -> Option<Refusal> {
 fn contents(rt: HostRuntime) {
     let abc = told(&rt, rt.alloc(), &NEW_FILE, &ABC, 0, b"abc");
     let written = encode_file(rt.alloc(), b"abc").expect(&rt, "memory");
-    assert!(rt; written == abc);
-    assert!(rt; abc.len() == 67);
-    assert!(rt; refusal_of(&rt, &abc, 63) == Some(Refusal::Short));
-    assert!(rt; refusal_of(&rt, &abc, 66) == Some(Refusal::BadLength));
+    require(&rt, written == abc && abc.len() == 67, "written");
+    require(
+        &rt,
+        refusal_of(&rt, &abc, 63) == Some(Refusal::Short),
+        "too short",
+    );
+    require(
+        &rt,
+        refusal_of(&rt, &abc, 66) == Some(Refusal::BadLength),
+        "a byte too few",
+    );
+}
+
+#[test]
+fn empty_contents(rt: HostRuntime) {
     let empty = encode_file(rt.alloc(), b"").expect(&rt, "memory");
-    assert!(rt; empty == told(&rt, rt.alloc(), &NEW_FILE, &NOTHING, 0, b""));
-    assert!(rt; empty.len() == 64);
+    let want = told(&rt, rt.alloc(), &NEW_FILE, &NOTHING, 0, b"");
+    require(&rt, empty == want && empty.len() == 64, "written");
 }
 
 /// Whether the bytes are room for a header, which is zeros, and those behind it.
@@ -97,43 +109,47 @@ fn is_unsealed(bytes: &[u8], body: &[u8]) -> bool {
     }
 }
 
-/// Whether the content of those pieces is encoded as room for a header and these bytes.
-fn is_encoded(rt: &impl Abort, alloc: Global, content: Spliced<'_>, bytes: &[u8]) -> bool
+/// The content of those pieces is encoded as room for a header and these bytes.
+fn encode(rt: &impl Abort, alloc: Global, content: Spliced<'_>, bytes: &[u8])
     requires { length content ≤ content_most }
 {
     let unsealed = encode_unsealed_in(Vec::new(alloc), content).expect(rt, "memory");
-    is_unsealed(&unsealed, bytes)
+    require(rt, is_unsealed(&unsealed, bytes), "room, and the bytes");
 }
 
 #[test]
 fn spliced_contents(rt: HostRuntime) {
     let (alloc, old) = (rt.alloc(), b"hello");
-    assert!(rt; is_encoded(&rt, alloc, Spliced::written(old, 1, b"ipp"), b"hippo"));
-    assert!(rt;
-        is_encoded(
-            &rt,
-            alloc,
-            Spliced::written(old, 7, b"you"),
-            b"hello\0\0you"
-        )
+    encode(&rt, alloc, Spliced::written(old, 1, b"ipp"), b"hippo");
+    encode(
+        &rt,
+        alloc,
+        Spliced::written(old, 7, b"you"),
+        b"hello\0\0you",
     );
-    assert!(rt; is_encoded(&rt, alloc, Spliced::written(old, 9, b""), b"hello"));
-    assert!(rt; is_encoded(&rt, alloc, Spliced::resized(old, 2), b"he"));
-    assert!(rt; is_encoded(&rt, alloc, Spliced::resized(old, 6), b"hello\0"));
+    encode(&rt, alloc, Spliced::written(old, 9, b""), b"hello");
+    encode(&rt, alloc, Spliced::resized(old, 2), b"he");
+    encode(&rt, alloc, Spliced::resized(old, 6), b"hello\0");
+}
+
+/// The content of those pieces lies in one piece, which is that one, or doesn't.
+fn lie(rt: &impl Abort, content: Spliced<'_>, piece: Option<&[u8]>) {
+    require(rt, content.as_slice() == piece, "in one piece");
 }
 
 #[test]
 fn contents_in_one_piece(rt: HostRuntime) {
     let old = b"hello";
-    assert!(rt; Spliced::whole(old).as_slice() == Some(old.as_slice()));
-    assert!(rt; Spliced::written(b"", 0, old).as_slice() == Some(old.as_slice()));
-    assert!(rt; Spliced::written(b"hip", 0, old).as_slice() == Some(old.as_slice()));
-    assert!(rt; Spliced::written(b"", 1, old).as_slice() == None);
-    assert!(rt; Spliced::written(old, 0, b"y").as_slice() == None);
-    assert!(rt; Spliced::resized(old, 1).as_slice() == Some(&old[..1]));
-    assert!(rt; Spliced::resized(old, old.len() + 1).as_slice() == None);
+    lie(&rt, Spliced::whole(old), Some(old.as_slice()));
+    lie(&rt, Spliced::written(b"", 0, old), Some(old.as_slice()));
+    lie(&rt, Spliced::written(b"hip", 0, old), Some(old.as_slice()));
+    lie(&rt, Spliced::written(b"", 1, old), None);
+    lie(&rt, Spliced::written(old, 0, b"y"), None);
+    lie(&rt, Spliced::resized(old, 1), Some(&old[..1]));
+    lie(&rt, Spliced::resized(old, old.len() + 1), None);
     let abc = told(&rt, rt.alloc(), &NEW_FILE, &ABC, 0, b"abc");
-    assert!(rt; header_of(Identifier::File, b"abc").as_slice() == cut(&rt, &abc, 64));
+    let header = header_of(Identifier::File, b"abc");
+    require(&rt, header.as_slice() == cut(&rt, &abc, 64), "the header");
 }
 
 /// The front of a file of version 1, the byte that says nothing, and why the file is refused, if it is.
@@ -177,11 +193,11 @@ fn refusal(rt: &impl Abort, file: &[u8], body: &[u8]) -> Option<Refusal> {
 fn fronts(rt: HostRuntime) {
     for (front, unread, why) in FRONTS {
         let file = stored(&rt, rt.alloc(), front, *unread, b"hi");
-        assert!(rt; refusal(&rt, &file, b"hi") == *why);
+        require(&rt, refusal(&rt, &file, b"hi") == *why, "of version 1");
     }
     for (front, digest, unread, body, why) in TOLD_FRONTS {
         let file = told(&rt, rt.alloc(), front, digest, *unread, body);
-        assert!(rt; refusal(&rt, &file, body) == *why);
+        require(&rt, refusal(&rt, &file, body) == *why, "of version 2");
     }
 }
 
@@ -205,12 +221,20 @@ const STATE_DIGEST: [u8; 20] = [
 fn states(rt: HostRuntime) {
     let bytes = told(&rt, rt.alloc(), &NEW_FILE, &STATE_DIGEST, 0, &STATE_BODY);
     let written = encode_state(rt.alloc(), STATE).expect(&rt, "memory");
-    assert!(rt; written == bytes);
-    assert!(rt; bytes.len() == 92);
-    assert!(rt; decode_state(&bytes) == Ok(STATE));
-    assert!(rt; decode_state(cut(&rt, &bytes, 91)) == Err(Refusal::BadLength));
+    require(&rt, written == bytes && bytes.len() == 92, "written");
+    require(&rt, decode_state(&bytes) == Ok(STATE), "read");
+    let refused = Err(Refusal::BadLength);
+    require(
+        &rt,
+        decode_state(cut(&rt, &bytes, 91)) == refused,
+        "a byte too few",
+    );
     let old = stored(&rt, rt.alloc(), &FILE, 0, &STATE_BODY);
-    assert!(rt; decode_state(&old) == Ok(STATE));
+    require(
+        &rt,
+        decode_state(&old) == Ok(STATE),
+        "one of version 1 read",
+    );
 }
 
 /// The body of a state whose next number is the root's.
@@ -222,10 +246,20 @@ const USED_UP: [u8; 28] = [
 #[test]
 fn bad_states(rt: HostRuntime) {
     let bytes = stored(&rt, rt.alloc(), &FILE, 0, &STATE_BODY);
-    assert!(rt; decode_state(cut(&rt, &bytes, 91)) == Err(Refusal::BadBody));
-    assert!(rt; decode_state(cut(&rt, &bytes, 63)) == Err(Refusal::Short));
+    let refused = Err(Refusal::BadBody);
+    require(
+        &rt,
+        decode_state(cut(&rt, &bytes, 91)) == refused,
+        "a byte too few",
+    );
+    let short = Err(Refusal::Short);
+    require(
+        &rt,
+        decode_state(cut(&rt, &bytes, 63)) == short,
+        "too short",
+    );
     let used_up = stored(&rt, rt.alloc(), &FILE, 0, &USED_UP);
-    assert!(rt; decode_state(&used_up) == Err(Refusal::BadBody));
+    require(&rt, decode_state(&used_up) == refused, "no number left");
 }
 
 /// The body of a directory with one file `a`, number 5, whose content is its own.
@@ -242,8 +276,9 @@ fn is_one_file(entry: &StoredEntry) -> bool {
 fn directories(rt: HostRuntime) {
     let bytes = stored(&rt, rt.alloc(), &DIRECTORY, 0, &ONE_FILE);
     let entries = decode_dir(rt.alloc(), &bytes).expect(&rt, "a directory");
-    assert!(rt; entries.len() == 1);
-    assert!(rt; is_one_file(&entries[0]));
+    let is_so = entries.len() == 1 && is_one_file(&entries[0]);
+    drop(entries);
+    require(&rt, is_so, "one file");
 }
 
 /// The bodies: with a byte too many, with a name twice, with one entry of two, and with one of the most.
@@ -261,7 +296,8 @@ fn bad_directories(rt: HostRuntime) {
     for body in BAD_BODIES {
         let bytes = stored(&rt, rt.alloc(), &DIRECTORY, 0, body);
         let fault = decode_dir(rt.alloc(), &bytes).err();
-        assert!(rt; fault == Some(DecodeFault::Refused(Refusal::BadBody)));
+        let want = Some(DecodeFault::Refused(Refusal::BadBody));
+        require(&rt, fault == want, "each body");
     }
 }
 
@@ -293,7 +329,9 @@ fn written(rt: &impl Abort, alloc: Global, origin: Origin) -> Vec<u8>
     requires { HasOrigin kind.File origin }
 {
     let entries = one_file(rt, alloc, origin);
-    encode_dir(alloc, &entries).expect(rt, "memory")
+    let file = encode_dir(alloc, &entries).expect(rt, "memory");
+    drop(entries);
+    file
 }
 
 /// The body of that directory, where the file's content is its own.
@@ -308,17 +346,19 @@ pub const OWN_DIGEST: [u8; 20] = [
 #[test]
 fn own_file_is_written(rt: HostRuntime) {
     let file = written(&rt, rt.alloc(), Origin::Own);
-    assert!(rt; file == told(&rt, rt.alloc(), &NEW_DIRECTORY, &OWN_DIGEST, 0, OWN_BODY));
-    assert!(rt; file.len() == 87);
+    let want = told(&rt, rt.alloc(), &NEW_DIRECTORY, &OWN_DIGEST, 0, OWN_BODY);
+    require(&rt, file == want && file.len() == 87, "written");
     let header = header_of(Identifier::Directory, OWN_BODY);
-    assert!(rt; header.as_slice() == cut(&rt, &file, 64));
+    require(&rt, header.as_slice() == cut(&rt, &file, 64), "its header");
 }
 
 #[test]
 fn own_file_is_listed(rt: HostRuntime) {
     let entries = one_file(&rt, rt.alloc(), Origin::Own);
     let listing = Listing::of(Vec::new(rt.alloc()), &entries).expect(&rt, "memory");
-    assert!(rt; is_unsealed(&listing.into_unsealed(), OWN_BODY));
+    drop(entries);
+    let unsealed = listing.into_unsealed();
+    require(&rt, is_unsealed(&unsealed, OWN_BODY), "room, and the body");
 }
 
 const OBJECT_BODY: &[u8] =
@@ -334,15 +374,13 @@ const OBJECT_DIGEST: [u8; 20] = [
 fn object_file_is_written(rt: HostRuntime) {
     let id = Id { bytes: [0x22; 20] };
     let file = written(&rt, rt.alloc(), Origin::Object(id));
-    assert!(rt;
-        file == told(
-            &rt,
-            rt.alloc(),
-            &NEW_DIRECTORY,
-            &OBJECT_DIGEST,
-            0,
-            OBJECT_BODY
-        )
+    let want = told(
+        &rt,
+        rt.alloc(),
+        &NEW_DIRECTORY,
+        &OBJECT_DIGEST,
+        0,
+        OBJECT_BODY,
     );
-    assert!(rt; file.len() == 107);
+    require(&rt, file == want && file.len() == 107, "written");
 }

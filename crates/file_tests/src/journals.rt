@@ -1,18 +1,19 @@
 //! Files with a journal over them: in memory, in a folder, cut, and stopped in the middle.
-use crate::folders::{Made, folder_of, has, make};
-use crate::kinds::{
-    Answer, BEHAVIOUR, Call, SIXTY_FOUR, SIXTY_SIX, gives_all, gives_all_but_lists,
-};
+use crate::folders::{Made, folder_of, has, make, remove};
+use crate::kinds::{Answer, Call, SIXTY_FOUR, SIXTY_SIX, ask_all, behave};
+use crate::steps::{Step, fills, follow, follow_with, is_filled, of_length};
+use crate::told::require;
 use eden_model::{Obstacle, Outside};
 use eden_overlay::{FailingFiles, Files, FilesFault, FolderFiles, MemoryFiles, StopFiles};
 use eden_overlay_format::Head;
 use eden_overlay_journal::{
     FolderJournal, Journal, Journaled, LONGEST_RECORD, MemoryJournal, taken_in,
 };
-use std::alloc::{AllocError, Global};
+use std::alloc::Global;
 use std::cell::Cell;
 use std::io::{self, ErrorKind};
 use std::path::PathBuf;
+use std::process::Abort;
 use std::rc::Rc;
 use std::time::{Duration, SystemTime};
 use std::{fs, thread};
@@ -28,229 +29,292 @@ fn in_memory(alloc: Global) -> InMemory {
 
 // The files of the folder, as an opening finds them.
 pub fn opened(rt: &HostRuntime, folder: &PathBuf) -> Result<InFolder, FilesFault> {
+    let path = folder.clone()?;
     let journal = FolderJournal::open(*rt, rt.alloc(), folder)?;
-    let files = FolderFiles::new(*rt, folder.clone()?);
-    taken_in::<Outside, _, _>(rt.alloc(), files, journal)
+    taken_in::<Outside, _, _>(rt.alloc(), FolderFiles::new(*rt, path), journal)
+}
+
+// The steps are so over the files of the folder, as an opening finds them.
+pub fn follow_opened(rt: &impl Abort, system: &HostRuntime, folder: &PathBuf, steps: &[Step]) {
+    follow_with(
+        rt,
+        system,
+        folder,
+        opened(system, folder).expect(rt, "files"),
+        steps,
+    )
 }
 
 #[test]
 fn a_journal_in_memory_behaves(rt: HostRuntime) {
-    assert!(rt; gives_all(&mut in_memory(rt.alloc()), rt.alloc(), BEHAVIOUR));
-    assert!(rt; gives_all_but_lists(&mut in_memory(rt.alloc()), rt.alloc(), BEHAVIOUR));
+    behave(&rt, rt.alloc(), in_memory(rt.alloc()), true);
+    behave(&rt, rt.alloc(), in_memory(rt.alloc()), false);
 }
 
+const NO_JOURNAL: Step = Step::Has("journal", false);
+
 // What is stored by `BEHAVIOUR` at its end.
-const LEFT: &[(Call, Answer)] = &[
-    (Call::Read(2), Answer::Bytes(Some(b""))),
-    (Call::Read(5), Answer::Bytes(None)),
-    (Call::Read(10), Answer::Bytes(None)),
-    (Call::Read(u64::MAX), Answer::Bytes(Some(b"\0\xff"))),
-    (Call::Read(0), Answer::Bytes(Some(b"zero"))),
-    (Call::List, Answer::Numbers(&[0, 2, u64::MAX])),
+const LEFT: &[Step] = &[
+    NO_JOURNAL,
+    Step::Gives(Call::Read(2), Answer::Bytes(Some(b""))),
+    Step::Gives(Call::Read(5), Answer::Bytes(None)),
+    Step::Gives(Call::Read(10), Answer::Bytes(None)),
+    Step::Gives(Call::Read(u64::MAX), Answer::Bytes(Some(b"\0\xff"))),
+    Step::Gives(Call::Read(0), Answer::Bytes(Some(b"zero"))),
+    Step::Gives(Call::List, Answer::Numbers(&[0, 2, u64::MAX])),
 ];
 
 #[test]
 fn a_journal_in_a_folder_behaves(rt: HostRuntime) {
-    let alloc = rt.alloc();
-    for lists in [true, false] {
+    for lists in &[true, false] {
         let folder = folder_of(&rt, "journal-behaves", &[]).expect(&rt, "a folder");
-        let mut files = opened(&rt, &folder).expect(&rt, "files");
-        if lists {
-            assert!(rt; gives_all(&mut files, alloc, BEHAVIOUR));
-        } else {
-            assert!(rt; gives_all_but_lists(&mut files, alloc, BEHAVIOUR));
-        }
-        // As after a kill: nothing closes it.
-        drop(files);
-        let mut again = opened(&rt, &folder).expect(&rt, "files");
-        assert!(rt; has(&rt, &folder, "journal") == Some(false));
-        assert!(rt; gives_all(&mut again, alloc, LEFT));
-        fs::remove_dir_all(&rt, folder.as_path()).expect(&rt, "a folder");
+        let files = opened(&rt, &folder).expect(&rt, "files");
+        behave(&rt, rt.alloc(), files, *lists);
+        follow_opened(&rt, &rt, &folder, LEFT);
+        remove(&rt, folder).expect(&rt, "a folder");
     }
 }
 
-// Changes, of which the records take 48 + 64, 48 + 2, 48, 48 + 66 and 48 bytes.
-const CHANGES: &[(Call, Answer)] = &[
-    (Call::Replace(5, SIXTY_FOUR), Answer::Done),
-    (Call::Replace(7, b"7!"), Answer::Done),
-    (Call::Remove(3), Answer::Done),
-    (Call::Replace(5, SIXTY_SIX), Answer::Done),
-    (Call::Remove(7), Answer::Done),
+// What a folder has with a file 3.
+const THREE: &[(&str, Made)] = &[("3", Made::File(b"3"))];
+
+// Changes, of which the records take 48 + 64, 48 + 2, 48, 48 + 66 and 48 bytes; no numbered file has changed then.
+const CHANGES: &[Step] = &[
+    Step::Gives(Call::Replace(5, SIXTY_FOUR), Answer::Done),
+    Step::Gives(Call::Replace(7, b"7!"), Answer::Done),
+    Step::Gives(Call::Remove(3), Answer::Done),
+    Step::Gives(Call::Replace(5, SIXTY_SIX), Answer::Done),
+    Step::Gives(Call::Remove(7), Answer::Done),
+    Step::Has("5", false),
+    Step::Has("3", true),
 ];
 
-// Where each record of `CHANGES` ends.
-const ENDS: [usize; 5] = [112, 162, 210, 324, 372];
+const OLD_THREE: Step = Step::Gives(Call::Read(3), Answer::Bytes(Some(b"3")));
 
-// What there is once so many of the changes are done, over a file 3.
-fn after(changes: usize) -> [(Call, Answer); 3] {
-    let five = match changes {
-        0 => None,
-        1..=3 => Some(SIXTY_FOUR),
-        _ => Some(SIXTY_SIX),
-    };
-    let seven: Option<&'static [u8]> = match changes {
-        2..=4 => Some(b"7!"),
-        _ => None,
-    };
-    let three: Option<&'static [u8]> = match changes {
-        0..=2 => Some(b"3"),
-        _ => None,
-    };
-    [
-        (Call::Read(3), Answer::Bytes(three)),
-        (Call::Read(5), Answer::Bytes(five)),
-        (Call::Read(7), Answer::Bytes(seven)),
-    ]
+const NO_THREE: Step = Step::Gives(Call::Read(3), Answer::Bytes(None));
+
+const NO_FIVE: Step = Step::Gives(Call::Read(5), Answer::Bytes(None));
+
+const SHORT_FIVE: Step = Step::Gives(Call::Read(5), Answer::Bytes(Some(SIXTY_FOUR)));
+
+const LONG_FIVE: Step = Step::Gives(Call::Read(5), Answer::Bytes(Some(SIXTY_SIX)));
+
+const NO_SEVEN: Step = Step::Gives(Call::Read(7), Answer::Bytes(None));
+
+const SEVEN: Step = Step::Gives(Call::Read(7), Answer::Bytes(Some(b"7!")));
+
+// What there is once all of the changes are done, over a file 3.
+const ALL_DONE: &[Step] = &[NO_THREE, LONG_FIVE, NO_SEVEN, NO_JOURNAL];
+
+// Where each record of `CHANGES` ends, and what there is once those up to it are done, over a file 3.
+const AFTER: &[(usize, &[Step])] = &[
+    (0, &[OLD_THREE, NO_FIVE, NO_SEVEN, NO_JOURNAL]),
+    (112, &[OLD_THREE, SHORT_FIVE, NO_SEVEN, NO_JOURNAL]),
+    (162, &[OLD_THREE, SHORT_FIVE, SEVEN, NO_JOURNAL]),
+    (210, &[NO_THREE, SHORT_FIVE, SEVEN, NO_JOURNAL]),
+    (324, &[NO_THREE, LONG_FIVE, SEVEN, NO_JOURNAL]),
+    (372, ALL_DONE),
+];
+
+// What there is once the records are done that end in that many bytes.
+fn after(len: usize) -> &'static [Step<'static>] {
+    let mut there: &'static [Step<'static>] = &[];
+    for (end, steps) in AFTER {
+        if *end <= len {
+            there = *steps;
+        }
+    }
+    there
+}
+
+pub fn write_journal(rt: &HostRuntime, folder: &PathBuf, journal: &[u8]) -> io::Result<()> {
+    let path = folder.join(rt.alloc(), "journal")?;
+    fs::write(rt, path.as_path(), journal)
 }
 
 // A folder with a file 3, and these bytes as its journal.
-pub fn left(rt: &HostRuntime, name: &str, journal: &[u8]) -> io::Result<PathBuf> {
-    let folder = folder_of(rt, name, &[("3", Made::File(b"3"))])?;
-    let path = folder.join(rt.alloc(), "journal")?;
-    fs::write(rt, path.as_path(), journal)?;
-    Ok(folder)
+fn left(rt: &impl Abort, system: &HostRuntime, name: &str, journal: &[u8]) -> PathBuf {
+    let folder = folder_of(system, name, THREE).expect(rt, "a folder");
+    write_journal(system, &folder, journal).expect(rt, "a journal");
+    folder
 }
 
 // The least that stands behind the records of a journal that is written, zeros.
 const RESERVE: usize = 64 << 10;
 
-// The records of a journal, which have that many bytes, with the reserve behind them; None where it isn't so.
-pub fn before_reserve(journal: Vec<u8>, len: usize) -> Option<Vec<u8>> {
-    let mut journal = journal;
-    let (_, reserve) = journal.split_at_checked(len)?;
-    if reserve.len() < RESERVE || reserve.iter().any(|byte| *byte != 0) {
-        return None;
+// Whether the reserve stands behind records of that many bytes.
+fn has_reserve(journal: &[u8], len: usize) -> bool {
+    match journal.split_at_checked(len) {
+        Some((_, reserve)) => reserve.len() >= RESERVE && are_zeros(reserve),
+        None => false,
     }
+}
+
+fn are_zeros(bytes: &[u8]) -> bool {
+    for byte in bytes {
+        if *byte != 0 {
+            return false;
+        }
+    }
+    true
+}
+
+fn journal_of(rt: &HostRuntime, folder: &PathBuf) -> io::Result<Vec<u8>> {
+    let path = folder.join(rt.alloc(), "journal")?;
+    fs::read(rt, path.as_path())
+}
+
+// The records of the folder's journal, which have that many bytes, with the reserve behind them.
+pub fn records_of(rt: &impl Abort, system: &HostRuntime, folder: &PathBuf, len: usize) -> Vec<u8> {
+    let mut journal = journal_of(system, folder).expect(rt, "a journal");
+    require(
+        rt,
+        has_reserve(&journal, len),
+        "records, and a reserve behind them",
+    );
     journal.truncate(len);
-    Some(journal)
+    journal
 }
 
-// The journal that `CHANGES` leaves, by which no numbered file has changed yet; None where it isn't so.
-fn changes_left(rt: &HostRuntime) -> Option<Vec<u8>> {
-    let folder = folder_of(rt, "journal-changes", &[("3", Made::File(b"3"))]).ok()?;
-    let mut files = opened(rt, &folder).ok()?;
-    let is_done = gives_all(&mut files, rt.alloc(), CHANGES);
-    let is_noted = !has(rt, &folder, "5")? && has(rt, &folder, "3")?;
-    let path = folder.join(rt.alloc(), "journal").ok()?;
-    let journal = fs::read(rt, path.as_path()).ok()?;
-    fs::remove_dir_all(rt, folder.as_path()).ok()?;
-    if is_done && is_noted {
-        before_reserve(journal, 372)
-    } else {
-        None
-    }
+// The records of the journal that `CHANGES` leaves.
+fn changes_left(rt: &impl Abort, system: &HostRuntime) -> Vec<u8> {
+    let folder = folder_of(system, "journal-changes", THREE).expect(rt, "a folder");
+    follow_opened(rt, system, &folder, CHANGES);
+    let journal = records_of(rt, system, &folder, 372);
+    remove(system, folder).expect(rt, "a folder");
+    journal
 }
 
-// How many records end in that many bytes.
-fn whole_in(len: usize) -> usize {
-    ENDS.iter().position(|end| *end > len).unwrap_or(ENDS.len())
-}
-
-// Whether a journal of these bytes is taken in as so many of the changes; None where that isn't known.
-fn is_taken_as(rt: &HostRuntime, journal: &[u8], changes: usize) -> Option<bool> {
-    let folder = left(rt, "journal-cut", journal).ok()?;
-    let mut files = opened(rt, &folder).ok()?;
-    let is_taken = gives_all(&mut files, rt.alloc(), &after(changes));
-    let is_there = has(rt, &folder, "journal")?;
-    fs::remove_dir_all(rt, folder.as_path()).ok()?;
-    Some(is_taken && !is_there)
+// A journal of these bytes is taken in, over a file 3, and the steps are so then.
+pub fn take_in(rt: &impl Abort, system: &HostRuntime, name: &str, journal: &[u8], steps: &[Step]) {
+    let folder = left(rt, system, name, journal);
+    follow_opened(rt, system, &folder, steps);
+    remove(system, folder).expect(rt, "a folder");
 }
 
 #[test]
 fn a_cut_journal_is_taken_in_up_to_the_cut(rt: HostRuntime) {
-    let journal = changes_left(&rt).expect(&rt, "a journal");
-    assert!(rt; journal.len() == 372);
+    let journal = changes_left(&rt, &rt);
     for len in 0..=journal.len() {
-        assert!(rt; is_taken_as(&rt, &journal[..len], whole_in(len)) == Some(true));
+        take_in(&rt, &rt, "journal-cut", &journal[..len], after(len));
     }
+    require(&rt, journal.len() == 372, "all of the journal");
 }
 
 // Zeros behind the records, be it as many as a record's fields have, end them.
 #[test]
 fn a_journal_with_a_reserve_is_taken_in(rt: HostRuntime) {
-    let mut journal = changes_left(&rt).expect(&rt, "a journal");
-    for len in [373, 372 + 48, 372 + 5000] {
-        journal.resize(len, 0).expect(&rt, "memory");
-        assert!(rt; is_taken_as(&rt, &journal, 5) == Some(true));
+    let mut journal = changes_left(&rt, &rt);
+    for len in &[373, 372 + 48, 372 + 5000] {
+        journal.resize(*len, 0).expect(&rt, "memory");
+        take_in(&rt, &rt, "journal-reserve", &journal, ALL_DONE);
     }
 }
+
+// The folder's journal notes that file 9 is stored.
+fn note_nine(rt: &impl Abort, system: &HostRuntime, folder: &PathBuf) {
+    let mut journal = FolderJournal::open(*system, system.alloc(), folder).expect(rt, "a journal");
+    let answer = Journal::<Outside>::store(&mut journal, system.alloc(), 9, b"9");
+    drop(journal);
+    require(rt, answer == Ok(()), "file 9 noted");
+}
+
+const DONE_AND_NINE: &[Step] = &[
+    NO_THREE,
+    LONG_FIVE,
+    NO_SEVEN,
+    Step::Gives(Call::Read(9), Answer::Bytes(Some(b"9"))),
+];
 
 // As after a kill, by a run that goes on in it: the record stands behind the others, and its reserve behind it.
 #[test]
 fn a_journal_with_a_reserve_goes_on(rt: HostRuntime) {
-    let alloc = rt.alloc();
-    let mut journal = changes_left(&rt).expect(&rt, "a journal");
+    let mut journal = changes_left(&rt, &rt);
     journal.resize(5000, 0).expect(&rt, "memory");
-    let folder = left(&rt, "journal-goes-on", &journal).expect(&rt, "a journal");
-    let mut journal = FolderJournal::open(rt, alloc, &folder).expect(&rt, "a journal");
-    assert!(rt; Journal::<Outside>::store(&mut journal, alloc, 9, b"9") == Ok(()));
-    drop(journal);
-    let path = folder.join(alloc, "journal").expect(&rt, "memory");
-    let written = fs::read(&rt, path.as_path()).expect(&rt, "a journal");
-    assert!(rt; before_reserve(written, 372 + 49).is_some());
-    let mut files = opened(&rt, &folder).expect(&rt, "files");
-    assert!(rt; gives_all(&mut files, alloc, &after(5)));
-    assert!(rt;
-        gives_all(
-            &mut files,
-            alloc,
-            &[(Call::Read(9), Answer::Bytes(Some(b"9")))]
-        )
-    );
-    fs::remove_dir_all(&rt, folder.as_path()).expect(&rt, "a folder");
+    let folder = left(&rt, &rt, "journal-goes-on", &journal);
+    note_nine(&rt, &rt, &folder);
+    drop(records_of(&rt, &rt, &folder, 372 + 49));
+    follow_opened(&rt, &rt, &folder, DONE_AND_NINE);
+    remove(&rt, folder).expect(&rt, "a folder");
 }
 
 #[test]
 fn a_damaged_journal_is_taken_in_up_to_the_damage(rt: HostRuntime) {
-    let mut journal = changes_left(&rt).expect(&rt, "a journal");
+    let mut journal = changes_left(&rt, &rt);
     for at in 0..journal.len() {
         journal[at] ^= 0x20;
-        assert!(rt; is_taken_as(&rt, &journal, whole_in(at)) == Some(true));
+        take_in(&rt, &rt, "journal-damage", &journal, after(at));
         journal[at] ^= 0x20;
     }
 }
 
-// An opening of files whose calls stop after so many.
-fn stopped(rt: &HostRuntime, folder: &PathBuf, allowed: Rc<Cell<u64>>) -> Result<(), FilesFault> {
-    let journal = FolderJournal::open(*rt, rt.alloc(), folder)?;
-    let files = StopFiles::new(FolderFiles::new(*rt, folder.clone()?), allowed);
-    taken_in::<Outside, _, _>(rt.alloc(), files, journal)?;
-    Ok(())
-}
-
-// A look at the state is a call, the three numbers of which the journal says something are three more, and the wait
-// until the disk has them is the last.
-#[test]
-fn a_taking_in_that_stops_is_done_again(rt: HostRuntime) {
-    let journal = changes_left(&rt).expect(&rt, "a journal");
-    for calls in 0..6 {
-        let folder = left(&rt, "journal-stopped", &journal).expect(&rt, "a journal");
-        let allowed = Rc::new(rt.alloc(), Cell::new(calls)).expect(&rt, "memory");
-        let want = if calls < 5 {
-            Err(FilesFault::Device)
-        } else {
+// An opening of files of which so many calls are done.
+fn stopped(
+    rt: &impl Abort,
+    system: &HostRuntime,
+    folder: &PathBuf,
+    calls: u64,
+) -> Result<(), FilesFault> {
+    let allowed = Rc::new(system.alloc(), Cell::new(calls)).expect(rt, "memory");
+    let path = folder.clone().expect(rt, "memory");
+    let journal = FolderJournal::open(*system, system.alloc(), folder).expect(rt, "a journal");
+    let files = StopFiles::new(FolderFiles::new(*system, path), allowed);
+    match taken_in::<Outside, _, _>(system.alloc(), files, journal) {
+        Err(fault) => Err(fault),
+        Ok(files) => {
+            drop(files);
             Ok(())
-        };
-        assert!(rt; stopped(&rt, &folder, allowed) == want);
-        assert!(rt; has(&rt, &folder, "journal") == Some(calls < 5));
-        let mut files = opened(&rt, &folder).expect(&rt, "files");
-        assert!(rt; gives_all(&mut files, rt.alloc(), &after(5)));
-        fs::remove_dir_all(&rt, folder.as_path()).expect(&rt, "a folder");
+        }
     }
 }
+
+// How many calls are done, how the opening ends then, and whether the journal is left. A look at the state is a call,
+// the three numbers of which the journal says something are three more, and the wait until the disk has them is the
+// last.
+const STOPPED: &[(u64, Result<(), FilesFault>, bool)] = &[
+    (0, Err(FilesFault::Device), true),
+    (1, Err(FilesFault::Device), true),
+    (2, Err(FilesFault::Device), true),
+    (3, Err(FilesFault::Device), true),
+    (4, Err(FilesFault::Device), true),
+    (5, Ok(()), false),
+];
+
+#[test]
+fn a_taking_in_that_stops_is_done_again(rt: HostRuntime) {
+    let journal = changes_left(&rt, &rt);
+    for (calls, want, is_left) in STOPPED {
+        let folder = left(&rt, &rt, "journal-stopped", &journal);
+        require(
+            &rt,
+            stopped(&rt, &rt, &folder, *calls) == *want,
+            "stopped so",
+        );
+        require(
+            &rt,
+            has(&rt, &folder, "journal") == Some(*is_left),
+            "the journal left",
+        );
+        follow_opened(&rt, &rt, &folder, ALL_DONE);
+        remove(&rt, folder).expect(&rt, "a folder");
+    }
+}
+
+const PASSED_OVER: &[Step] = &[
+    OLD_THREE,
+    NO_FIVE,
+    NO_SEVEN,
+    Step::Has("0", true),
+    NO_JOURNAL,
+];
 
 // As where a program that knows of no journals closed what a later one left.
 #[test]
 fn a_journal_beside_a_state_is_passed_over(rt: HostRuntime) {
-    let journal = changes_left(&rt).expect(&rt, "a journal");
-    let folder = left(&rt, "journal-closed", &journal).expect(&rt, "a journal");
+    let folder = left(&rt, &rt, "journal-closed", &changes_left(&rt, &rt));
     make(&rt, &folder, "0", Made::File(b"state")).expect(&rt, "a state");
-    let mut files = opened(&rt, &folder).expect(&rt, "files");
-    assert!(rt; gives_all(&mut files, rt.alloc(), &after(0)));
-    assert!(rt;
-        has(&rt, &folder, "0") == Some(true) && has(&rt, &folder, "journal") == Some(false)
-    );
-    fs::remove_dir_all(&rt, folder.as_path()).expect(&rt, "a folder");
+    follow_opened(&rt, &rt, &folder, PASSED_OVER);
+    remove(&rt, folder).expect(&rt, "a folder");
 }
 
 // When the folder's file of that name was written last.
@@ -259,58 +323,66 @@ fn when_written(rt: &HostRuntime, folder: &PathBuf, name: &str) -> io::Result<Sy
     fs::metadata(rt, path.as_path())?.modified()
 }
 
-#[test]
-fn a_file_has_the_time_of_its_change(rt: HostRuntime) {
-    let alloc = rt.alloc();
-    let folder = folder_of(&rt, "journal-times", &[]).expect(&rt, "a folder");
-    let mut files = opened(&rt, &folder).expect(&rt, "files");
-    let before = SystemTime::now(&rt).expect(&rt, "a time");
-    assert!(rt; files.replace(alloc, 5, b"5") == Ok(()));
-    let changed = SystemTime::now(&rt).expect(&rt, "a time");
+// When a store of file 5 in the folder began and ended.
+fn store_five(rt: &impl Abort, system: &HostRuntime, folder: &PathBuf) -> (SystemTime, SystemTime) {
+    let mut files = opened(system, folder).expect(rt, "files");
+    let before = SystemTime::now(system).expect(rt, "a time");
+    ask_all(
+        rt,
+        system.alloc(),
+        &mut files,
+        &[(Call::Replace(5, b"5"), Answer::Done)],
+    );
+    let changed = SystemTime::now(system).expect(rt, "a time");
     drop(files);
-    thread::sleep(&rt, Duration::from_millis(50));
-    drop(opened(&rt, &folder).expect(&rt, "files"));
-    let when = when_written(&rt, &folder, "5").expect(&rt, "a time");
-    assert!(rt; before <= when && when <= changed);
-    fs::remove_dir_all(&rt, folder.as_path()).expect(&rt, "a folder");
+    (before, changed)
 }
 
-// So many bytes, of which no proof has to know.
-pub fn of_length(alloc: Global, count: usize) -> Result<Vec<u8>, AllocError> {
-    [7; 1].repeat(alloc, count)
+#[test]
+fn a_file_has_the_time_of_its_change(rt: HostRuntime) {
+    let folder = folder_of(&rt, "journal-times", &[]).expect(&rt, "a folder");
+    let (before, changed) = store_five(&rt, &rt, &folder);
+    thread::sleep(&rt, Duration::from_millis(50));
+    follow_opened(&rt, &rt, &folder, &[]);
+    let when = when_written(&rt, &folder, "5").expect(&rt, "a time");
+    require(
+        &rt,
+        before <= when && when <= changed,
+        "the time of the change",
+    );
+    remove(&rt, folder).expect(&rt, "a folder");
 }
 
 // What no journal has: the state, and a file that is too long.
+const PAST: &[Step] = &[
+    Step::Fills(5, LONGEST_RECORD),
+    Step::Has("5", false),
+    Step::Fills(5, LONGEST_RECORD + 1),
+    Step::Has("5", true),
+    Step::Has("journal", true),
+];
+
+const PAST_AGAIN: &[Step] = &[
+    Step::IsFilled(5, LONGEST_RECORD + 1),
+    Step::Gives(Call::Replace(7, b"7"), Answer::Done),
+    Step::Has("journal", true),
+    Step::FillsBehind(8, b"8", LONGEST_RECORD),
+    Step::Has("8", true),
+    Step::Gives(Call::ReplaceJoined(9, b"9", b"9"), Answer::Done),
+    Step::Has("9", false),
+    Step::Gives(Call::Replace(0, b"state"), Answer::Done),
+    Step::Has("0", true),
+    Step::Has("7", true),
+    Step::Has("9", true),
+    NO_JOURNAL,
+];
+
 #[test]
 fn the_state_and_long_files_are_stored_at_once(rt: HostRuntime) {
-    let alloc = rt.alloc();
     let folder = folder_of(&rt, "journal-past", &[]).expect(&rt, "a folder");
-    let mut files = opened(&rt, &folder).expect(&rt, "files");
-    let longest = of_length(alloc, LONGEST_RECORD).expect(&rt, "memory");
-    assert!(rt; files.replace(alloc, 5, &longest) == Ok(()));
-    assert!(rt; has(&rt, &folder, "5") == Some(false));
-    let long = of_length(alloc, LONGEST_RECORD + 1).expect(&rt, "memory");
-    assert!(rt; files.replace(alloc, 5, &long) == Ok(()));
-    assert!(rt; has(&rt, &folder, "5") == Some(true) && has(&rt, &folder, "journal") == Some(true));
-    drop(files);
-    let mut files = opened(&rt, &folder).expect(&rt, "files");
-    let read = files.read(alloc, 5).expect(&rt, "an answer");
-    assert!(rt; read.expect(&rt, "a file") == long);
-    assert!(rt;
-        files.replace(alloc, 7, b"7") == Ok(()) && has(&rt, &folder, "journal") == Some(true)
-    );
-    assert!(rt; files.replace_joined(alloc, 8, b"8", &longest) == Ok(()));
-    assert!(rt; has(&rt, &folder, "8") == Some(true));
-    assert!(rt; files.replace_joined(alloc, 9, b"9", b"9") == Ok(()));
-    assert!(rt; has(&rt, &folder, "9") == Some(false));
-    assert!(rt; files.replace(alloc, 0, b"state") == Ok(()));
-    assert!(rt;
-        has(&rt, &folder, "0") == Some(true)
-            && has(&rt, &folder, "7") == Some(true)
-            && has(&rt, &folder, "9") == Some(true)
-            && has(&rt, &folder, "journal") == Some(false)
-    );
-    fs::remove_dir_all(&rt, folder.as_path()).expect(&rt, "a folder");
+    follow_opened(&rt, &rt, &folder, PAST);
+    follow_opened(&rt, &rt, &folder, PAST_AGAIN);
+    remove(&rt, folder).expect(&rt, "a folder");
 }
 
 // A system of which that call fails as where the disk is full.
@@ -323,107 +395,160 @@ fn failing(rt: &HostRuntime, call: SystemCall) -> FaultySystem<'static, HostRunt
     }
 }
 
+type FaultyJournal = FolderJournal<FaultySystem<'static, HostRuntime>>;
+
+// The folder's journal, over such a system.
+fn failing_journal(
+    rt: &impl Abort,
+    system: &HostRuntime,
+    folder: &PathBuf,
+    call: SystemCall,
+) -> FaultyJournal {
+    FolderJournal::open(failing(system, call), system.alloc(), folder).expect(rt, "a journal")
+}
+
+type FaultyFiles = FolderFiles<FaultySystem<'static, HostRuntime>>;
+
+// The folder's files, over such a system.
+fn failing_files(
+    rt: &impl Abort,
+    system: &HostRuntime,
+    folder: &PathBuf,
+    call: SystemCall,
+) -> FaultyFiles {
+    FolderFiles::new(failing(system, call), folder.clone().expect(rt, "memory"))
+}
+
+// The steps are so over the folder's files and journal, where the one call of the files' system fails, and the other of
+// the journal's.
+fn follow_failing(
+    rt: &impl Abort,
+    system: &HostRuntime,
+    folder: &PathBuf,
+    of_files: SystemCall,
+    of_journal: SystemCall,
+    steps: &[Step],
+) {
+    let journal = failing_journal(rt, system, folder, of_journal);
+    let files = Journaled::new(failing_files(rt, system, folder, of_files), journal);
+    follow_with(rt, system, folder, files, steps)
+}
+
 // What a folder has with a file 5.
 const FIVE: &[(&str, Made)] = &[("5", Made::File(b"5"))];
+
+const REFUSED: &[Step] = &[
+    Step::Gives(Call::Replace(5, b"new"), Answer::Device),
+    Step::Gives(Call::Remove(5), Answer::Device),
+    Step::HasFailed(2),
+];
+
+const KEPT: &[Step] = &[Step::Gives(Call::Read(5), Answer::Bytes(Some(b"5")))];
 
 // No change that the device refused is told as done, or seen.
 #[test]
 fn a_failing_device_is_told_and_counted(rt: HostRuntime) {
-    let alloc = rt.alloc();
-    for call in [SystemCall::Open, SystemCall::Write] {
+    for call in &[SystemCall::Open, SystemCall::Write] {
         let folder = folder_of(&rt, "journal-failing", FIVE).expect(&rt, "a folder");
-        let journal = FolderJournal::open(failing(&rt, call), alloc, &folder);
-        let journal = journal.expect(&rt, "a journal");
-        let path = folder.clone().expect(&rt, "memory");
-        let mut files = Journaled::new(FolderFiles::new(failing(&rt, call), path), journal);
-        assert!(rt;
-            Files::<Outside>::replace(&mut files, alloc, 5, b"new") == Err(FilesFault::Device)
-        );
-        assert!(rt; Files::<Outside>::remove(&mut files, 5) == Err(FilesFault::Device));
-        assert!(rt; Files::<Outside>::failures(&files) == 2);
-        drop(files);
-        let mut files = opened(&rt, &folder).expect(&rt, "files");
-        assert!(rt;
-            gives_all(
-                &mut files,
-                alloc,
-                &[(Call::Read(5), Answer::Bytes(Some(b"5")))]
-            )
-        );
-        fs::remove_dir_all(&rt, folder.as_path()).expect(&rt, "a folder");
+        follow_failing(&rt, &rt, &folder, *call, *call, REFUSED);
+        follow_opened(&rt, &rt, &folder, KEPT);
+        remove(&rt, folder).expect(&rt, "a folder");
     }
 }
+
+const WAITS: &[Step] = &[
+    Step::Gives(Call::Replace(7, b"7"), Answer::Done),
+    Step::Gives(Call::Sync, Answer::Device),
+    Step::Gives(Call::Sync, Answer::Device),
+    Step::HasFailed(2),
+];
+
+const SEVEN_STORED: &[Step] = &[Step::Gives(Call::Read(7), Answer::Bytes(Some(b"7")))];
+
+// Of the files and of their journal, whose wait fails.
+const WAITING: &[(SystemCall, SystemCall)] = &[
+    (SystemCall::Sync, SystemCall::None),
+    (SystemCall::None, SystemCall::Sync),
+];
 
 // A wait that the disk refuses is told, by the files and by their journal, each time; what is stored stays so.
 #[test]
 fn a_wait_that_fails_is_told(rt: HostRuntime) {
-    let alloc = rt.alloc();
-    for (of_files, of_journal) in [
-        (SystemCall::Sync, SystemCall::None),
-        (SystemCall::None, SystemCall::Sync),
-    ] {
+    for (of_files, of_journal) in WAITING {
         let folder = folder_of(&rt, "journal-waits", FIVE).expect(&rt, "a folder");
-        let journal = FolderJournal::open(failing(&rt, of_journal), alloc, &folder);
-        let journal = journal.expect(&rt, "a journal");
-        let path = folder.clone().expect(&rt, "memory");
-        let mut files = Journaled::new(FolderFiles::new(failing(&rt, of_files), path), journal);
-        assert!(rt; Files::<Outside>::replace(&mut files, alloc, 7, b"7") == Ok(()));
-        assert!(rt; Files::<Outside>::sync(&mut files, alloc) == Err(FilesFault::Device));
-        assert!(rt; Files::<Outside>::sync(&mut files, alloc) == Err(FilesFault::Device));
-        assert!(rt; Files::<Outside>::failures(&files) == 2);
-        drop(files);
-        let mut files = opened(&rt, &folder).expect(&rt, "files");
-        assert!(rt;
-            gives_all(
-                &mut files,
-                alloc,
-                &[(Call::Read(7), Answer::Bytes(Some(b"7")))]
-            )
-        );
-        fs::remove_dir_all(&rt, folder.as_path()).expect(&rt, "a folder");
+        follow_failing(&rt, &rt, &folder, *of_files, *of_journal, WAITS);
+        follow_opened(&rt, &rt, &folder, SEVEN_STORED);
+        remove(&rt, folder).expect(&rt, "a folder");
     }
+}
+
+const CLOSED: &[Step] = &[
+    Step::Gives(Call::Sync, Answer::Done),
+    Step::Gives(Call::Replace(7, b"7"), Answer::Done),
+    Step::Gives(Call::Replace(8, b"8"), Answer::Done),
+    Step::Gives(Call::Replace(0, b"state"), Answer::Done),
+    Step::Has("0", true),
+    NO_JOURNAL,
+];
+
+const NOT_CLOSED: &[Step] = &[
+    Step::Gives(Call::Sync, Answer::Done),
+    Step::Gives(Call::Replace(7, b"7"), Answer::Done),
+    Step::Gives(Call::Replace(8, b"8"), Answer::Done),
+    Step::Gives(Call::Replace(0, b"state"), Answer::Device),
+    Step::Has("0", false),
+    Step::Has("journal", true),
+];
+
+// The call that fails of the journal's system, and the close.
+const CLOSES: &[(SystemCall, &[Step])] = &[
+    (SystemCall::None, CLOSED),
+    (SystemCall::Sync, NOT_CLOSED),
+];
+
+// What such a close has stored.
+const STORED: &[Step] = &[
+    Step::Gives(Call::Read(5), Answer::Bytes(Some(b"5"))),
+    Step::Gives(Call::Read(7), Answer::Bytes(Some(b"7"))),
+    Step::Gives(Call::Read(8), Answer::Bytes(Some(b"8"))),
+];
+
+// The steps are so where the fourth call of the files fails.
+fn follow_losing(
+    rt: &impl Abort,
+    system: &HostRuntime,
+    folder: &PathBuf,
+    of_journal: SystemCall,
+    steps: &[Step],
+) {
+    let journal = failing_journal(rt, system, folder, of_journal);
+    let path = folder.clone().expect(rt, "memory");
+    let files = FailingFiles::new(FolderFiles::new(*system, path), 4);
+    follow_with(rt, system, folder, Journaled::new(files, journal), steps)
 }
 
 // A close whose wait for all files fails, as it does for good once the disk lost something: where the disk takes the
-// names of what is stored, that is enough, and else it is told, and the journal stays.
+// names of what is stored, that is enough, and else it is told, and the journal stays. The calls of the files: a wait
+// for the disk, two stores, and the wait that fails.
 #[test]
 fn a_close_waits_for_what_it_stores(rt: HostRuntime) {
-    let alloc = rt.alloc();
-    for (of_journal, want) in [
-        (SystemCall::None, Ok(())),
-        (SystemCall::Sync, Err(FilesFault::Device)),
-    ] {
+    for (of_journal, steps) in CLOSES {
         let folder = folder_of(&rt, "journal-lost", FIVE).expect(&rt, "a folder");
-        let journal = FolderJournal::open(failing(&rt, of_journal), alloc, &folder);
-        let journal = journal.expect(&rt, "a journal");
-        let path = folder.clone().expect(&rt, "memory");
-        // The calls of the files: a wait for the disk, two stores, and the wait that fails.
-        let mut files = Journaled::new(FailingFiles::new(FolderFiles::new(rt, path), 4), journal);
-        assert!(rt; Files::<Outside>::sync(&mut files, alloc) == Ok(()));
-        assert!(rt; Files::<Outside>::replace(&mut files, alloc, 7, b"7") == Ok(()));
-        assert!(rt; Files::<Outside>::replace(&mut files, alloc, 8, b"8") == Ok(()));
-        assert!(rt; Files::<Outside>::replace(&mut files, alloc, 0, b"state") == want);
-        assert!(rt; has(&rt, &folder, "0") == Some(want.is_ok()));
-        assert!(rt; has(&rt, &folder, "journal") == Some(want.is_err()));
-        drop(files);
-        let mut files = opened(&rt, &folder).expect(&rt, "files");
-        assert!(rt; gives_all(&mut files, alloc, STORED));
-        fs::remove_dir_all(&rt, folder.as_path()).expect(&rt, "a folder");
+        follow_losing(&rt, &rt, &folder, *of_journal, steps);
+        follow_opened(&rt, &rt, &folder, STORED);
+        remove(&rt, folder).expect(&rt, "a folder");
     }
 }
-
-// What such a close has stored.
-const STORED: &[(Call, Answer)] = &[
-    (Call::Read(5), Answer::Bytes(Some(b"5"))),
-    (Call::Read(7), Answer::Bytes(Some(b"7"))),
-    (Call::Read(8), Answer::Bytes(Some(b"8"))),
-];
 
 // How many of the longest records fill a journal.
 const FILLING: u64 = 128;
 
+// How many files are stored one after another, and how many calls of the files are left then. Once the journal is full
+// the next one tries to empty it, by a store that fails.
+const FILLED: &[(u64, u64)] = &[(FILLING, 999), (1, 998), (FILLING - 1, 998)];
+
 // Stores that many files of these bytes, under numbers from 1 on. Whether each was done.
-fn fills<F: Files<Outside>>(files: &mut F, alloc: Global, bytes: &[u8], count: u64) -> bool {
+fn stores_all<F: Files<Outside>>(files: &mut F, alloc: Global, bytes: &[u8], count: u64) -> bool {
     for number in 1..=count {
         if files.replace(alloc, number, bytes) != Ok(()) {
             return false;
@@ -432,34 +557,53 @@ fn fills<F: Files<Outside>>(files: &mut F, alloc: Global, bytes: &[u8], count: u
     true
 }
 
+// Stores files of the longest records.
+fn fill<F: Files<Outside>>(rt: &impl Abort, alloc: Global, files: &mut F, left: &Cell<u64>) {
+    let longest = of_length(alloc, LONGEST_RECORD).expect(rt, "memory");
+    for (count, calls) in FILLED {
+        let is_so = stores_all(files, alloc, &longest, *count) && left.get() == *calls;
+        require(rt, is_so, "a full journal goes on");
+    }
+    drop(longest)
+}
+
+const REFUSES_WAIT: &[Step] = &[Step::Gives(Call::Sync, Answer::Device)];
+
+const ONE_FAILED: &[Step] = &[Step::HasFailed(1), Step::Has("journal", true)];
+
+// A wait is refused, and changes aren't, where the files' calls are counted there.
+fn go_on_full<F: Files<Outside>>(
+    rt: &impl Abort,
+    system: &HostRuntime,
+    folder: &PathBuf,
+    files: F,
+    left: &Cell<u64>,
+) {
+    let mut files = files;
+    follow(rt, system, folder, &mut files, REFUSES_WAIT);
+    fill(rt, system.alloc(), &mut files, left);
+    follow(rt, system, folder, &mut files, ONE_FAILED);
+}
+
+// The same of the folder's files and journal.
+fn go_on_full_in(rt: &impl Abort, system: &HostRuntime, folder: &PathBuf) {
+    let left = Rc::new(system.alloc(), Cell::new(1_000)).expect(rt, "memory");
+    let counted = left.clone().expect(rt, "memory");
+    let journal = failing_journal(rt, system, folder, SystemCall::Sync);
+    let files = StopFiles::new(failing_files(rt, system, folder, SystemCall::Sync), counted);
+    go_on_full(rt, system, folder, Journaled::new(files, journal), &left);
+    drop(left)
+}
+
+const FIVE_FILLED: &[Step] = &[Step::IsFilled(5, LONGEST_RECORD)];
+
 // A disk that fails for good refuses no change that the full journal can note, and isn't asked at each of them.
 #[test]
 fn a_full_journal_that_stays_goes_on(rt: HostRuntime) {
-    let alloc = rt.alloc();
     let folder = folder_of(&rt, "journal-full", &[]).expect(&rt, "a folder");
-    let journal = FolderJournal::open(failing(&rt, SystemCall::Sync), alloc, &folder);
-    let journal = journal.expect(&rt, "a journal");
-    let path = folder.clone().expect(&rt, "memory");
-    let allowed = Rc::new(alloc, Cell::new(1_000)).expect(&rt, "memory");
-    let counted = allowed.clone().expect(&rt, "memory");
-    let files = StopFiles::new(
-        FolderFiles::new(failing(&rt, SystemCall::Sync), path),
-        counted,
-    );
-    let mut files = Journaled::new(files, journal);
-    let longest = of_length(alloc, LONGEST_RECORD).expect(&rt, "memory");
-    assert!(rt; Files::<Outside>::sync(&mut files, alloc) == Err(FilesFault::Device));
-    assert!(rt; fills(&mut files, alloc, &longest, FILLING) && allowed.get() == 999);
-    // The next one tries to empty it, by a store that fails.
-    assert!(rt; fills(&mut files, alloc, &longest, 1) && allowed.get() == 998);
-    assert!(rt; fills(&mut files, alloc, &longest, FILLING - 1) && allowed.get() == 998);
-    assert!(rt; Files::<Outside>::failures(&files) == 1);
-    assert!(rt; has(&rt, &folder, "journal") == Some(true));
-    drop(files);
-    let mut files = opened(&rt, &folder).expect(&rt, "files");
-    let read = files.read(alloc, 5).expect(&rt, "an answer");
-    assert!(rt; read.expect(&rt, "a file") == longest);
-    fs::remove_dir_all(&rt, folder.as_path()).expect(&rt, "a folder");
+    go_on_full_in(&rt, &rt, &folder);
+    follow_opened(&rt, &rt, &folder, FIVE_FILLED);
+    remove(&rt, folder).expect(&rt, "a folder");
 }
 
 // A journal without room for a removal, over files whose calls are counted: it notes how many were left when the disk
@@ -540,86 +684,108 @@ impl Journal<Outside> for Roomless {
 
 // Once somebody waited for the disk, it has what the journal says before a file is removed past it. Each removal is two
 // calls of the files, since it looks first how long the file is.
+fn wait_for_it<F: Files<Outside>>(
+    rt: &impl Abort,
+    alloc: Global,
+    files: F,
+    left: &Cell<u64>,
+    at_wait: &Cell<u64>,
+) {
+    let mut files = files;
+    let is_removed = files.remove(5) == Ok(());
+    require(
+        rt,
+        is_removed && left.get() == 7 && at_wait.get() == 0,
+        "nothing waited for",
+    );
+    require(rt, files.sync(alloc) == Ok(()), "a wait");
+    at_wait.set(0);
+    let is_removed = files.remove(5) == Ok(());
+    require(
+        rt,
+        is_removed && left.get() == 4 && at_wait.get() == 5,
+        "the journal waited for",
+    );
+}
+
 #[test]
 fn a_removal_without_room_waits_for_the_journal(rt: HostRuntime) {
-    let alloc = rt.alloc();
-    let left = Rc::new(alloc, Cell::new(9)).expect(&rt, "memory");
-    let at_wait = Rc::new(alloc, Cell::new(0)).expect(&rt, "memory");
+    let left = Rc::new(rt.alloc(), Cell::new(9)).expect(&rt, "memory");
+    let at_wait = Rc::new(rt.alloc(), Cell::new(0)).expect(&rt, "memory");
     let journal = Roomless {
         left: left.clone().expect(&rt, "memory"),
         at_wait: at_wait.clone().expect(&rt, "memory"),
     };
     let counted = left.clone().expect(&rt, "memory");
-    let files = StopFiles::new(MemoryFiles::<Outside>::new(alloc), counted);
-    let mut files = Journaled::new(files, journal);
-    assert!(rt; Files::<Outside>::remove(&mut files, 5) == Ok(()));
-    assert!(rt; left.get() == 7 && at_wait.get() == 0);
-    assert!(rt; Files::<Outside>::sync(&mut files, alloc) == Ok(()));
-    at_wait.set(0);
-    assert!(rt; Files::<Outside>::remove(&mut files, 5) == Ok(()));
-    assert!(rt; left.get() == 4 && at_wait.get() == 5);
+    let files = StopFiles::new(MemoryFiles::<Outside>::new(rt.alloc()), counted);
+    wait_for_it(
+        &rt,
+        rt.alloc(),
+        Journaled::new(files, journal),
+        &left,
+        &at_wait,
+    );
+    drop(left);
+    drop(at_wait);
 }
+
+const GOES_PAST: &[Step] = &[
+    Step::Gives(Call::Replace(5, b"new"), Answer::Done),
+    Step::HasFailed(0),
+    Step::Gives(Call::Read(5), Answer::Bytes(Some(b"new"))),
+    NO_JOURNAL,
+];
 
 // Where the journal can't be written, what it had goes into the files, and the change too.
 #[test]
 fn a_change_goes_past_a_failing_journal(rt: HostRuntime) {
-    let alloc = rt.alloc();
-    for call in [SystemCall::Open, SystemCall::Write] {
+    for call in &[SystemCall::Open, SystemCall::Write] {
         let folder = folder_of(&rt, "journal-past-failing", FIVE).expect(&rt, "a folder");
-        let journal = FolderJournal::open(failing(&rt, call), alloc, &folder);
-        let journal = journal.expect(&rt, "a journal");
-        let path = folder.clone().expect(&rt, "memory");
-        let mut files = Journaled::new(FolderFiles::new(rt, path), journal);
-        assert!(rt; Files::<Outside>::replace(&mut files, alloc, 5, b"new") == Ok(()));
-        assert!(rt; Files::<Outside>::failures(&files) == 0);
-        assert!(rt;
-            gives_all(
-                &mut files,
-                alloc,
-                &[(Call::Read(5), Answer::Bytes(Some(b"new")))]
-            )
-        );
-        assert!(rt; has(&rt, &folder, "journal") == Some(false));
-        fs::remove_dir_all(&rt, folder.as_path()).expect(&rt, "a folder");
+        follow_failing(&rt, &rt, &folder, SystemCall::None, *call, GOES_PAST);
+        remove(&rt, folder).expect(&rt, "a folder");
     }
+}
+
+// Whether a file that no journal has is stored, though a call fails meanwhile.
+fn is_stored<F: Files<Outside>>(files: F, alloc: Global) -> bool {
+    let mut files = files;
+    fills(&mut files, alloc, 5, LONGEST_RECORD + 1)
+        && files.failures() == 0
+        && is_filled(&mut files, alloc, 5, LONGEST_RECORD + 1)
 }
 
 // As on a full disk, of which the journal has yet to remove what nobody wants any more.
 #[test]
 fn a_store_that_fails_is_made_once_the_journal_is_empty(rt: HostRuntime) {
-    let alloc = rt.alloc();
-    let files = FailingFiles::new(MemoryFiles::<Outside>::new(alloc), 1);
-    let mut files = Journaled::new(files, MemoryJournal::<Outside>::new(alloc));
-    let long = of_length(alloc, LONGEST_RECORD + 1).expect(&rt, "memory");
-    assert!(rt; files.replace(alloc, 5, &long) == Ok(()));
-    assert!(rt; Files::<Outside>::failures(&files) == 0);
-    let read = files.read(alloc, 5).expect(&rt, "an answer");
-    assert!(rt; read.expect(&rt, "a file") == long);
+    let files = FailingFiles::new(MemoryFiles::<Outside>::new(rt.alloc()), 1);
+    let files = Journaled::new(files, MemoryJournal::<Outside>::new(rt.alloc()));
+    require(&rt, is_stored(files, rt.alloc()), "stored");
 }
 
 const LARGE_AND_SMALL: &[(&str, Made)] = &[("5", Made::Long(16 << 20)), ("6", Made::File(b"six"))];
 
-const REMOVED: &[(Call, Answer)] = &[
-    (Call::Remove(5), Answer::Done),
-    (Call::Remove(6), Answer::Done),
-    (Call::Read(5), Answer::Bytes(None)),
-    (Call::Read(6), Answer::Bytes(None)),
+// The small one is removed when the journal is emptied.
+const REMOVED: &[Step] = &[
+    Step::Gives(Call::Remove(5), Answer::Done),
+    Step::Gives(Call::Remove(6), Answer::Done),
+    Step::Gives(Call::Read(5), Answer::Bytes(None)),
+    Step::Gives(Call::Read(6), Answer::Bytes(None)),
+    Step::Has("5", false),
+    Step::Has("6", true),
 ];
 
-// Another one is removed when the journal is emptied.
 #[test]
 fn a_large_file_goes_at_once(rt: HostRuntime) {
     let folder = folder_of(&rt, "journal-large", LARGE_AND_SMALL).expect(&rt, "a folder");
-    let mut files = opened(&rt, &folder).expect(&rt, "files");
-    assert!(rt; gives_all(&mut files, rt.alloc(), REMOVED));
-    assert!(rt; has(&rt, &folder, "5") == Some(false) && has(&rt, &folder, "6") == Some(true));
-    fs::remove_dir_all(&rt, folder.as_path()).expect(&rt, "a folder");
+    follow_opened(&rt, &rt, &folder, REMOVED);
+    remove(&rt, folder).expect(&rt, "a folder");
 }
 
 #[test]
 fn what_is_no_journal_refuses(rt: HostRuntime) {
     let folder = folder_of(&rt, "journal-odd", &[]).expect(&rt, "a folder");
     make(&rt, &folder, "journal", Made::Folder).expect(&rt, "a folder");
-    assert!(rt; opened(&rt, &folder).err() == Some(FilesFault::Device));
-    fs::remove_dir_all(&rt, folder.as_path()).expect(&rt, "a folder");
+    let fault = opened(&rt, &folder).err();
+    remove(&rt, folder).expect(&rt, "a folder");
+    assert!(rt; fault == Some(FilesFault::Device));
 }

@@ -1,5 +1,6 @@
 //! The kinds of files that an overlay stands on: in memory, in a folder, and failing ones.
-use crate::folders::{Made, folder_of, has};
+use crate::folders::{Made, folder_of, has, remove};
+use crate::told::require;
 use eden_model::Outside;
 use eden_overlay::{FailingFiles, Files, FilesFault, FolderFiles, MemoryFiles, StopFiles};
 use eden_overlay_format::{Head, Identifier};
@@ -13,37 +14,35 @@ use std::rc::Rc;
 use test_samples::{Call as SystemCall, FaultySystem};
 
 #[derive(Clone, Copy)]
-pub enum Call {
+pub enum Call<'a> {
     Read(u64),
     Head(u64),
     // From there on, and at most so many.
     Part(u64, u64, u64),
-    Replace(u64, &'static [u8]),
-    ReplaceJoined(u64, &'static [u8], &'static [u8]),
-    ReplaceBody(u64, Identifier, &'static [u8]),
+    Replace(u64, &'a [u8]),
+    ReplaceJoined(u64, &'a [u8], &'a [u8]),
+    ReplaceBody(u64, Identifier, &'a [u8]),
     Remove(u64),
     Sync,
     List,
 }
 
 #[derive(Clone, Copy)]
-pub enum Answer {
-    Bytes(Option<&'static [u8]>),
+pub enum Answer<'a> {
+    Bytes(Option<&'a [u8]>),
     // The first 64 bytes or more, of a file that has as many, and its length.
-    Head(Option<(&'static [u8], u64)>),
+    Head(Option<(&'a [u8], u64)>),
     Done,
-    Numbers(&'static [u64]),
+    Numbers(&'a [u64]),
     Device,
 }
 
 // Whether the files give that answer to the call.
-fn gives<F: Files<Outside>>(files: &mut F, alloc: Global, call: Call, want: Answer) -> bool {
+pub fn gives<F: Files<Outside>>(files: &mut F, alloc: Global, call: Call, want: Answer) -> bool {
     match call {
-        Call::Read(number) => is_read(&files.read(alloc, number), want),
+        Call::Read(number) => is_read(files.read(alloc, number), want),
         Call::Head(number) => is_head(files.head(number), want),
-        Call::Part(number, from, most) => {
-            is_read(&files.read_part(alloc, number, from, most), want)
-        }
+        Call::Part(number, from, most) => is_read(files.read_part(alloc, number, from, most), want),
         Call::Replace(number, bytes) => is_done(files.replace(alloc, number, bytes), want),
         Call::ReplaceJoined(number, front, behind) => {
             is_done(files.replace_joined(alloc, number, front, behind), want)
@@ -53,34 +52,61 @@ fn gives<F: Files<Outside>>(files: &mut F, alloc: Global, call: Call, want: Answ
         }
         Call::Remove(number) => is_done(files.remove(number), want),
         Call::Sync => is_done(files.sync(alloc), want),
-        Call::List => is_listed(&files.list(alloc), want),
+        Call::List => is_listed(files.list(alloc), want),
     }
 }
 
-fn is_read(answer: &Result<Option<Vec<u8>>, FilesFault>, want: Answer) -> bool {
-    match (answer, want) {
-        (Ok(None), Answer::Bytes(want)) => want.is_none(),
-        (Ok(Some(bytes)), Answer::Bytes(want)) => want == Some(bytes.as_slice()),
-        (Err(FilesFault::Device), Answer::Device) => true,
+// Whether that fault is the wanted answer.
+fn is_failed(fault: FilesFault, want: Answer) -> bool {
+    fault == FilesFault::Device && matches!(want, Answer::Device)
+}
+
+fn is_read(answer: Result<Option<Vec<u8>>, FilesFault>, want: Answer) -> bool {
+    let is_told = match &answer {
+        Ok(None) => matches!(want, Answer::Bytes(None)),
+        Ok(Some(bytes)) => are_bytes(bytes.as_slice(), want),
+        Err(fault) => is_failed(*fault, want),
+    };
+    drop(answer);
+    is_told
+}
+
+fn are_bytes(bytes: &[u8], want: Answer) -> bool {
+    match want {
+        Answer::Bytes(Some(want)) => bytes == want,
         _ => false,
     }
 }
 
 fn is_head(answer: Result<Option<Head>, FilesFault>, want: Answer) -> bool {
-    match (answer, want) {
-        (Ok(None), Answer::Head(want)) => want.is_none(),
-        (Ok(Some(head)), Answer::Head(Some((first, len)))) => {
+    match answer {
+        Ok(None) => matches!(want, Answer::Head(None)),
+        Ok(Some(head)) => is_head_of(head, want),
+        Err(fault) => is_failed(fault, want),
+    }
+}
+
+fn is_head_of(head: Head, want: Answer) -> bool {
+    match want {
+        Answer::Head(Some((first, len))) => {
             head.len == len && (len < 64 || first.starts_with(head.first.as_slice()))
         }
-        (Err(FilesFault::Device), Answer::Device) => true,
         _ => false,
     }
 }
 
-fn is_listed(answer: &Result<Vec<u64>, FilesFault>, want: Answer) -> bool {
-    match (answer, want) {
-        (Ok(numbers), Answer::Numbers(want)) => numbers.as_slice() == want,
-        (Err(FilesFault::Device), Answer::Device) => true,
+fn is_listed(answer: Result<Vec<u64>, FilesFault>, want: Answer) -> bool {
+    let is_told = match &answer {
+        Ok(numbers) => are_numbers(numbers.as_slice(), want),
+        Err(fault) => is_failed(*fault, want),
+    };
+    drop(answer);
+    is_told
+}
+
+fn are_numbers(numbers: &[u64], want: Answer) -> bool {
+    match want {
+        Answer::Numbers(want) => numbers == want,
         _ => false,
     }
 }
@@ -88,37 +114,42 @@ fn is_listed(answer: &Result<Vec<u64>, FilesFault>, want: Answer) -> bool {
 fn is_done(answer: Result<(), FilesFault>, want: Answer) -> bool {
     match answer {
         Ok(()) => matches!(want, Answer::Done),
-        Err(FilesFault::Device) => matches!(want, Answer::Device),
-        Err(FilesFault::Memory) => false,
+        Err(fault) => is_failed(fault, want),
     }
 }
 
-// Whether the files give those answers to the calls, made one after another.
-pub fn gives_all<F: Files<Outside>>(
-    files: &mut F,
+// The files give those answers to the calls, made one after another.
+pub fn ask_all<F: Files<Outside>>(
+    rt: &impl Abort,
     alloc: Global,
+    files: &mut F,
     calls: &[(Call, Answer)],
-) -> bool {
-    for (call, want) in calls {
-        if !gives(files, alloc, *call, *want) {
-            return false;
-        }
+) {
+    for (number, (call, want)) in calls.iter().enumerate() {
+        assert!(rt; gives(files, alloc, *call, *want), "call {number}");
     }
-    true
 }
 
-// The same, but for the calls that list.
-pub fn gives_all_but_lists<F: Files<Outside>>(
-    files: &mut F,
+// The same of files that are let go then, and how many failures they count. Nothing closes them, as after a kill.
+pub fn failures_of<F: Files<Outside>>(
+    rt: &impl Abort,
     alloc: Global,
+    files: F,
     calls: &[(Call, Answer)],
-) -> bool {
-    for (call, want) in calls {
-        if !matches!(call, Call::List) && !gives(files, alloc, *call, *want) {
-            return false;
-        }
+) -> u64 {
+    let mut files = files;
+    ask_all(rt, alloc, &mut files, calls);
+    files.failures()
+}
+
+// Asks files that are empty at first all of `BEHAVIOUR`, or all but for the calls that list.
+pub fn behave<F: Files<Outside>>(rt: &impl Abort, alloc: Global, files: F, lists: bool) {
+    let mut files = files;
+    for (number, (call, want)) in BEHAVIOUR.iter().enumerate() {
+        let is_left_out = !lists && matches!(call, Call::List);
+        let is_so = is_left_out || gives(&mut files, alloc, *call, *want);
+        assert!(rt; is_so, "call {number}");
     }
-    true
 }
 
 pub const SIXTY_FOUR: &[u8] = b"0123456789abcdef0123456789abcdef0123456789abcdef0123456789abcdef";
@@ -190,51 +221,77 @@ pub const BEHAVIOUR: &[(Call, Answer)] = &[
     (Call::Read(0), Answer::Bytes(Some(b"zero"))),
 ];
 
-// Ten thousand files, of which the last has these bytes.
-fn many(rt: &impl Abort, alloc: Global, last: &[u8]) -> MemoryFiles<Outside> {
-    let mut files = MemoryFiles::new(alloc);
-    for number in 0..10_000 {
+// Whether the file of that number has exactly these bytes.
+pub fn reads<F: Files<Outside>>(files: &mut F, alloc: Global, number: u64, want: &[u8]) -> bool {
+    let answer = files.read(alloc, number);
+    let is_read = match &answer {
+        Ok(Some(bytes)) => bytes.as_slice() == want,
+        _ => false,
+    };
+    drop(answer);
+    is_read
+}
+
+// Stores ten thousand files, of which the last has these bytes.
+fn store_many<F: Files<Outside>>(rt: &impl Abort, alloc: Global, files: &mut F, last: &[u8]) {
+    for number in 0..10_000u64 {
         files
             .replace(alloc, number, &number.to_be_bytes())
             .expect(rt, "memory");
     }
-    files.replace(alloc, 9_999, last).expect(rt, "memory");
-    files
+    files.replace(alloc, 9_999, last).expect(rt, "memory")
+}
+
+// How many files are listed.
+fn count<F: Files<Outside>>(rt: &impl Abort, alloc: Global, files: &mut F) -> usize {
+    files.list(alloc).expect(rt, "numbers").len()
+}
+
+// Whether files of that kind keep ten thousand, of which the last has these bytes.
+fn keeps_many<F: Files<Outside>>(rt: &impl Abort, alloc: Global, files: F, last: &[u8]) -> bool {
+    let mut files = files;
+    store_many(rt, alloc, &mut files, last);
+    reads(&mut files, alloc, 9_999, last) && count(rt, alloc, &mut files) == 10_000
 }
 
 // Ten thousand files, one of them of 100,000 bytes.
 #[test]
 fn memory_keeps_many_files(rt: HostRuntime) {
-    let alloc = rt.alloc();
-    let long = [7; 1000].repeat(alloc, 100).expect(&rt, "memory");
-    let mut files = many(&rt, alloc, long.as_slice());
-    let last = files.read(alloc, 9_999).expect(&rt, "an answer");
-    assert!(rt; last.expect(&rt, "a file") == long);
-    assert!(rt; files.list(alloc).expect(&rt, "numbers").len() == 10_000);
+    let long = [7; 1000].repeat(rt.alloc(), 100).expect(&rt, "memory");
+    let files = MemoryFiles::<Outside>::new(rt.alloc());
+    require(&rt, keeps_many(&rt, rt.alloc(), files, &long), "many files");
 }
 
 #[test]
 fn memory_behaves(rt: HostRuntime) {
-    let mut files = MemoryFiles::<Outside>::new(rt.alloc());
-    assert!(rt; gives_all(&mut files, rt.alloc(), BEHAVIOUR));
+    behave(
+        &rt,
+        rt.alloc(),
+        MemoryFiles::<Outside>::new(rt.alloc()),
+        true,
+    );
 }
 
-// How many failures files in the folder count that give those answers; none where they give others.
-fn failures_of(rt: &HostRuntime, folder: PathBuf, calls: &[(Call, Answer)]) -> Option<u64> {
-    let mut files = FolderFiles::new(rt, folder);
-    if gives_all(&mut files, rt.alloc(), calls) {
-        Some(files.failures())
-    } else {
-        None
-    }
+// How many failures files in the folder count that give those answers.
+fn failures_in(
+    rt: &impl Abort,
+    system: &HostRuntime,
+    folder: &PathBuf,
+    calls: &[(Call, Answer)],
+) -> u64 {
+    let path = folder.clone().expect(rt, "memory");
+    failures_of(rt, system.alloc(), FolderFiles::new(system, path), calls)
 }
 
 #[test]
 fn folder_behaves(rt: HostRuntime) {
     let folder = folder_of(&rt, "overlay-behaves", &[]).expect(&rt, "a folder");
-    let asked = folder.clone().expect(&rt, "memory");
-    assert!(rt; failures_of(&rt, asked, BEHAVIOUR) == Some(0));
-    fs::remove_dir_all(&rt, folder.as_path()).expect(&rt, "a folder");
+    require(
+        &rt,
+        failures_in(&rt, &rt, &folder, BEHAVIOUR) == 0,
+        "no failure",
+    );
+    remove(&rt, folder).expect(&rt, "a folder");
 }
 
 // Plain files of some names that are numbers and some that aren't, a directory 4, the links 6 and 7, of which one leads
@@ -274,9 +331,12 @@ const ODD: &[(Call, Answer)] = &[
 #[test]
 fn folder_reads_plain_files_alone(rt: HostRuntime) {
     let folder = folder_of(&rt, "overlay-odd", ODD_FILES).expect(&rt, "files");
-    let asked = folder.clone().expect(&rt, "memory");
-    assert!(rt; failures_of(&rt, asked, ODD) == Some(9));
-    fs::remove_dir_all(&rt, folder.as_path()).expect(&rt, "a folder");
+    require(
+        &rt,
+        failures_in(&rt, &rt, &folder, ODD) == 9,
+        "nine failures",
+    );
+    remove(&rt, folder).expect(&rt, "a folder");
 }
 
 // A file of 8 MiB, the longest, and one of a byte more.
@@ -286,36 +346,82 @@ const LONG_FILES: &[(&str, Made)] = &[
     ("7", Made::Long(1_073_741_889)),
 ];
 
-// How many bytes the file of that number has, or why it isn't read.
-fn length_of<F: Files<Outside>>(
-    files: &mut F,
-    alloc: Global,
-    number: u64,
-) -> Result<Option<usize>, FilesFault> {
-    match files.read(alloc, number) {
-        Ok(Some(bytes)) => Ok(Some(bytes.len())),
-        Ok(None) => Ok(None),
-        Err(fault) => Err(fault),
+// A system of which that call fails so.
+fn failing(
+    rt: &HostRuntime,
+    call: SystemCall,
+    kind: ErrorKind,
+) -> FaultySystem<'static, HostRuntime> {
+    FaultySystem {
+        files: *rt,
+        call,
+        kind,
+        instead: None,
     }
 }
 
-// Reads that find no memory tell which files are read at all, so that none of 2^30 bytes has to be.
+// The folder's files, where that call of the system fails so.
+fn failing_in(
+    rt: &impl Abort,
+    system: &HostRuntime,
+    folder: &PathBuf,
+    call: SystemCall,
+    kind: ErrorKind,
+) -> FolderFiles<FaultySystem<'static, HostRuntime>> {
+    FolderFiles::new(
+        failing(system, call, kind),
+        folder.clone().expect(rt, "memory"),
+    )
+}
+
+// How many bytes the file of that number has, or why it isn't read.
+fn length_of<F: Files<Outside>>(
+    files: F,
+    alloc: Global,
+    number: u64,
+) -> Result<Option<usize>, FilesFault> {
+    let mut files = files;
+    let answer = files.read(alloc, number);
+    let length = match &answer {
+        Ok(Some(bytes)) => Ok(Some(bytes.len())),
+        Ok(None) => Ok(None),
+        Err(fault) => Err(*fault),
+    };
+    drop(answer);
+    length
+}
+
+// The same of a file in the folder, where that call of the system finds no memory.
+fn length_in(
+    rt: &impl Abort,
+    system: &HostRuntime,
+    folder: &PathBuf,
+    call: SystemCall,
+    number: u64,
+) -> Result<Option<usize>, FilesFault> {
+    let files = failing_in(rt, system, folder, call, ErrorKind::OutOfMemory);
+    length_of(files, system.alloc(), number)
+}
+
+// The call that finds no memory, the number of a file, and its length, or why it isn't read. Reads that find no memory
+// tell which files are read at all, so that none of 2^30 bytes has to be.
+const LENGTHS: &[(SystemCall, u64, Result<Option<usize>, FilesFault>)] = &[
+    (SystemCall::None, 5, Ok(Some(8_388_608))),
+    (SystemCall::Read, 6, Err(FilesFault::Memory)),
+    (SystemCall::Read, 7, Err(FilesFault::Device)),
+];
+
 #[test]
 fn folder_reads_long_files(rt: HostRuntime) {
     let folder = folder_of(&rt, "overlay-long", LONG_FILES).expect(&rt, "files");
-    let mut files = FolderFiles::new(&rt, folder.clone().expect(&rt, "memory"));
-    assert!(rt; length_of(&mut files, rt.alloc(), 5) == Ok(Some(8_388_608)));
-    let system = FaultySystem {
-        files: &rt,
-        call: SystemCall::Read,
-        kind: ErrorKind::OutOfMemory,
-        instead: None,
-    };
-    let mut failing = FolderFiles::new(system, folder.clone().expect(&rt, "memory"));
-    assert!(rt; length_of(&mut failing, rt.alloc(), 6) == Err(FilesFault::Memory));
-    assert!(rt; length_of(&mut failing, rt.alloc(), 7) == Err(FilesFault::Device));
-    fs::remove_dir_all(&rt, folder.as_path()).expect(&rt, "a folder");
+    for (call, number, want) in LENGTHS {
+        let is_so = length_in(&rt, &rt, &folder, *call, *number) == *want;
+        require(&rt, is_so, "the length of each file");
+    }
+    remove(&rt, folder).expect(&rt, "a folder");
 }
+
+const BEING_STORED: &[(&str, Made)] = &[("5.new", Made::File(b"left over"))];
 
 const LEFT_OVER: &[(Call, Answer)] = &[
     (Call::Read(5), Answer::Bytes(None)),
@@ -327,12 +433,10 @@ const LEFT_OVER: &[(Call, Answer)] = &[
 
 #[test]
 fn what_a_kill_left_is_no_file(rt: HostRuntime) {
-    let table = [("5.new", Made::File(b"left over"))];
-    let folder = folder_of(&rt, "overlay-left", &table).expect(&rt, "a file");
-    let asked = folder.clone().expect(&rt, "memory");
-    assert!(rt; failures_of(&rt, asked, LEFT_OVER).is_some());
-    assert!(rt; has(&rt, &folder, "5.new") == Some(false));
-    fs::remove_dir_all(&rt, folder.as_path()).expect(&rt, "a folder");
+    let folder = folder_of(&rt, "overlay-left", BEING_STORED).expect(&rt, "a file");
+    failures_in(&rt, &rt, &folder, LEFT_OVER);
+    require(&rt, has(&rt, &folder, "5.new") == Some(false), "no 5.new");
+    remove(&rt, folder).expect(&rt, "a folder");
 }
 
 const GONE: &[(Call, Answer)] = &[
@@ -347,8 +451,11 @@ const GONE: &[(Call, Answer)] = &[
 fn a_missing_folder_fails(rt: HostRuntime) {
     let folder = folder_of(&rt, "overlay-gone", &[]).expect(&rt, "a folder");
     fs::remove_dir(&rt, folder.as_path()).expect(&rt, "no folder");
-    let asked = folder.clone().expect(&rt, "memory");
-    assert!(rt; failures_of(&rt, asked, GONE) == Some(3));
+    require(
+        &rt,
+        failures_in(&rt, &rt, &folder, GONE) == 3,
+        "three failures",
+    );
 }
 
 #[derive(Clone, Copy)]
@@ -376,7 +483,7 @@ fn fault_of<F: Files<Outside>>(files: &mut F, alloc: Global, ask: Ask) -> Option
 }
 
 // No removal, no replacement, no wait and no listing that the device refused is told as done.
-const FAILED: [(SystemCall, Ask); 17] = [
+const FAILED: &[(SystemCall, Ask)] = &[
     (SystemCall::Look, Ask::Head),
     (SystemCall::Open, Ask::Head),
     (SystemCall::LookAtOpen, Ask::Head),
@@ -396,38 +503,40 @@ const FAILED: [(SystemCall, Ask); 17] = [
     (SystemCall::List, Ask::List),
 ];
 
-// Whether the call answers `Device`, once and counted, where those of the system fail.
-fn is_told(rt: &HostRuntime, folder: PathBuf, call: SystemCall, ask: Ask) -> bool {
-    let system = FaultySystem {
-        files: rt,
-        call,
-        kind: ErrorKind::ConnectionReset,
-        instead: None,
-    };
-    let mut files = FolderFiles::new(system, folder);
-    fault_of(&mut files, rt.alloc(), ask) == Some(FilesFault::Device) && files.failures() == 1
+// Whether the call answers `Device`, once and counted.
+fn is_told<F: Files<Outside>>(files: F, alloc: Global, ask: Ask) -> bool {
+    let mut files = files;
+    fault_of(&mut files, alloc, ask) == Some(FilesFault::Device) && files.failures() == 1
 }
 
-// Whether file 5 has these bytes.
-fn holds<F: Files<Outside>>(files: &mut F, alloc: Global, bytes: &'static [u8]) -> bool {
-    gives(files, alloc, Call::Read(5), Answer::Bytes(Some(bytes)))
+const STORED: &[(Call, Answer)] = &[(Call::Replace(5, b"old"), Answer::Done)];
+
+const KEPT: &[(Call, Answer)] = &[(Call::Read(5), Answer::Bytes(Some(b"old")))];
+
+// The call fails so where those of the system fail, file 5 stays, and nothing is left beside it.
+fn fail_at(rt: &impl Abort, system: &HostRuntime, folder: &PathBuf, call: SystemCall, ask: Ask) {
+    let files = failing_in(rt, system, folder, call, ErrorKind::ConnectionReset);
+    require(
+        rt,
+        is_told(files, system.alloc(), ask),
+        "told as the device's",
+    );
+    failures_in(rt, system, folder, KEPT);
+    require(rt, has(system, folder, "5.new") == Some(false), "no 5.new");
 }
 
 #[test]
 fn a_failing_device_is_told_and_counted(rt: HostRuntime) {
     let folder = folder_of(&rt, "overlay-failing", &[]).expect(&rt, "a folder");
-    let mut sound = FolderFiles::new(&rt, folder.clone().expect(&rt, "memory"));
-    assert!(rt; sound.replace(rt.alloc(), 5, b"old") == Ok(()));
+    failures_in(&rt, &rt, &folder, STORED);
     for (call, ask) in FAILED {
-        assert!(rt; is_told(&rt, folder.clone().expect(&rt, "memory"), call, ask));
-        assert!(rt; holds(&mut sound, rt.alloc(), b"old"));
-        assert!(rt; has(&rt, &folder, "5.new") == Some(false));
+        fail_at(&rt, &rt, &folder, *call, *ask);
     }
-    fs::remove_dir_all(&rt, folder.as_path()).expect(&rt, "a folder");
+    remove(&rt, folder).expect(&rt, "a folder");
 }
 
 // Stores a file, reads it, removes it, and lists what is left. Which of the four calls fail?
-fn failing<F: Files<Outside>>(files: &mut F, alloc: Global) -> [bool; 4] {
+fn failing_calls<F: Files<Outside>>(files: &mut F, alloc: Global) -> [bool; 4] {
     [
         gives(files, alloc, Call::Replace(7, b"a"), Answer::Device),
         gives(files, alloc, Call::Read(7), Answer::Device),
@@ -447,24 +556,21 @@ const ONE_FAILS: &[(u64, [bool; 4], &[u64])] = &[
 ];
 
 // Whether those calls fail where that one does, and are counted.
-fn one_fails(
-    files: &mut FailingFiles<MemoryFiles<Outside>>,
-    alloc: Global,
-    want: [bool; 4],
-) -> bool {
-    failing(files, alloc) == want && (files.failures() == 1) == want.contains(&true)
+fn one_fails<F: Files<Outside>>(files: &mut F, alloc: Global, want: [bool; 4]) -> bool {
+    failing_calls(files, alloc) == want && (files.failures() == 1) == want.contains(&true)
+}
+
+// Whether files of these numbers are left.
+fn leaves<F: Files<Outside>>(files: F, alloc: Global, left: &'static [u64]) -> bool {
+    let mut files = files;
+    gives(&mut files, alloc, Call::List, Answer::Numbers(left))
 }
 
 // Whether those calls fail where that one does, and that is left.
 fn one_fails_and_leaves(alloc: Global, call: u64, want: [bool; 4], left: &'static [u64]) -> bool {
     let mut files = FailingFiles::new(MemoryFiles::<Outside>::new(alloc), call);
-    one_fails(&mut files, alloc, want)
-        && gives(
-            &mut files.into_files(),
-            alloc,
-            Call::List,
-            Answer::Numbers(left),
-        )
+    let fails = one_fails(&mut files, alloc, want);
+    leaves(files.into_files(), alloc, left) && fails
 }
 
 #[test]
@@ -482,28 +588,28 @@ const STOPS: &[(u64, [bool; 4], u64)] = &[
     (4, [false, false, false, false], 8),
 ];
 
-// Whether those calls fail where so many are allowed, all of which are used up then.
-fn stops(
-    files: &mut StopFiles<MemoryFiles<Outside>>,
-    alloc: Global,
-    allowed: &Cell<u64>,
-    calls: u64,
-    want: [bool; 4],
-) -> bool {
-    allowed.set(calls);
-    failing(files, alloc) == want && allowed.get() == 0
+// Those calls fail where so many are allowed, all of which are used up then.
+fn stop<F: Files<Outside>>(rt: &impl Abort, alloc: Global, files: &mut F, allowed: &Cell<u64>) {
+    for (calls, want, failures) in STOPS {
+        allowed.set(*calls);
+        let is_so = failing_calls(files, alloc) == *want && allowed.get() == 0;
+        assert!(rt;
+            is_so && files.failures() == *failures,
+            "where {calls} are allowed"
+        );
+    }
 }
 
 #[test]
 fn files_stop_and_are_mended(rt: HostRuntime) {
-    let alloc = rt.alloc();
-    let allowed = Rc::new(alloc, Cell::new(0)).expect(&rt, "memory");
+    let allowed = Rc::new(rt.alloc(), Cell::new(0)).expect(&rt, "memory");
     let counted = allowed.clone().expect(&rt, "memory");
-    let mut files = StopFiles::new(MemoryFiles::<Outside>::new(alloc), counted);
-    for (calls, want, failures) in STOPS {
-        assert!(rt; stops(&mut files, alloc, &allowed, *calls, *want));
-        assert!(rt; files.failures() == *failures);
-    }
-    let mut files = files.into_files();
-    assert!(rt; gives(&mut files, alloc, Call::List, Answer::Numbers(&[])));
+    let mut files = StopFiles::new(MemoryFiles::<Outside>::new(rt.alloc()), counted);
+    stop(&rt, rt.alloc(), &mut files, &allowed);
+    drop(allowed);
+    require(
+        &rt,
+        leaves(files.into_files(), rt.alloc(), &[]),
+        "nothing left",
+    );
 }

@@ -27,4 +27,8 @@ mod passes;
 #[cfg(test)]
 mod sources;
 #[cfg(test)]
+mod steps;
+#[cfg(test)]
+mod told;
+#[cfg(test)]
 mod trees;

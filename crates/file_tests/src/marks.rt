@@ -1,12 +1,14 @@
 //! The mark that a run leaves beside the state: which files the disk may lack, and what the next run makes of it.
-use crate::folders::{Made, damage, folder_of, make};
-use crate::kinds::{Answer, Call, gives_all};
+use crate::folders::{Made, damage, folder_of, make, remove};
+use crate::kinds::{Answer, Call, failures_of};
+use crate::told::require;
 use eden_overlay::FolderFiles;
 use eden_overlay_format::decode_file;
 use std::fs;
 use std::io::{self, ErrorKind};
 use std::os::unix::fs::MetadataExt;
 use std::path::PathBuf;
+use std::process::Abort;
 use test_samples::{Call as SystemCall, FaultySystem};
 
 // A run over an empty folder, which stores a file and is closed.
@@ -40,12 +42,10 @@ const BESIDE: &[(Call, Answer)] = &[(Call::Replace(8, b"eight"), Answer::Done)];
 // One that asks for the disk, but doesn't open what is there.
 const NOT_OPENED: &[(Call, Answer)] = &[(Call::Sync, Answer::Device)];
 
-// Whether a run over the folder gives those answers to the calls.
-fn runs(rt: &HostRuntime, folder: &PathBuf, calls: &[(Call, Answer)]) -> bool {
-    match folder.clone() {
-        Ok(folder) => gives_all(&mut FolderFiles::new(rt, folder), rt.alloc(), calls),
-        Err(_) => false,
-    }
+// A run over the folder gives those answers to the calls.
+fn run(rt: &impl Abort, system: &HostRuntime, folder: &PathBuf, calls: &[(Call, Answer)]) {
+    let path = folder.clone().expect(rt, "memory");
+    failures_of(rt, system.alloc(), FolderFiles::new(system, path), calls);
 }
 
 // A system that tells no folder's names.
@@ -58,12 +58,15 @@ fn blind(rt: &HostRuntime) -> FaultySystem<'static, HostRuntime> {
     }
 }
 
-// Whether one over such a system does.
-fn runs_blind(rt: &HostRuntime, folder: &PathBuf, calls: &[(Call, Answer)]) -> bool {
-    match folder.clone() {
-        Ok(folder) => gives_all(&mut FolderFiles::new(blind(rt), folder), rt.alloc(), calls),
-        Err(_) => false,
-    }
+// One over such a system does.
+fn run_blind(rt: &impl Abort, system: &HostRuntime, folder: &PathBuf, calls: &[(Call, Answer)]) {
+    let path = folder.clone().expect(rt, "memory");
+    failures_of(
+        rt,
+        system.alloc(),
+        FolderFiles::new(blind(system), path),
+        calls,
+    );
 }
 
 // What happens to the folder between two runs.
@@ -77,7 +80,7 @@ enum Between {
     // Another file stands in the mark's place.
     Replaced,
     Unmarked,
-    Run(&'static [(Call, Answer)]),
+    Run(&'static [(Call<'static>, Answer<'static>)]),
 }
 
 // What is done then, and what the next run does.
@@ -105,15 +108,23 @@ fn remove_mark(rt: &HostRuntime, folder: &PathBuf) -> io::Result<()> {
     fs::remove_file(rt, mark.as_path())
 }
 
-// Does that to the folder. False where it can't be done.
-fn is_done(rt: &HostRuntime, folder: &PathBuf, between: Between) -> bool {
+// Does that to the folder.
+fn change(
+    rt: &impl Abort,
+    system: &HostRuntime,
+    folder: &PathBuf,
+    between: Between,
+) -> io::Result<()> {
     match between {
-        Between::Nothing => true,
-        Between::StoredAnew => store_anew(rt, folder).is_ok(),
-        Between::Damaged => damage(rt, folder, "unsynced").is_ok(),
-        Between::Replaced => make(rt, folder, "unsynced", Made::File(b"unsynced")).is_ok(),
-        Between::Unmarked => remove_mark(rt, folder).is_ok(),
-        Between::Run(calls) => runs(rt, folder, calls),
+        Between::Nothing => Ok(()),
+        Between::StoredAnew => store_anew(system, folder),
+        Between::Damaged => damage(system, folder, "unsynced"),
+        Between::Replaced => make(system, folder, "unsynced", Made::File(b"unsynced")),
+        Between::Unmarked => remove_mark(system, folder),
+        Between::Run(calls) => {
+            run(rt, system, folder, calls);
+            Ok(())
+        }
     }
 }
 
@@ -129,12 +140,10 @@ const UNMARKED: &[(Call, Answer)] = &[
 fn a_mark_counts_beside_its_state(rt: HostRuntime) {
     for (between, next) in ROWS {
         let folder = folder_of(&rt, "overlay-mark", &[]).expect(&rt, "a folder");
-        assert!(rt;
-            runs(&rt, &folder, FIRST)
-                && is_done(&rt, &folder, *between)
-                && runs_blind(&rt, &folder, next)
-        );
-        fs::remove_dir_all(&rt, folder.as_path()).expect(&rt, "a folder");
+        run(&rt, &rt, &folder, FIRST);
+        change(&rt, &rt, &folder, *between).expect(&rt, "a change");
+        run_blind(&rt, &rt, &folder, next);
+        remove(&rt, folder).expect(&rt, "a folder");
     }
 }
 
@@ -172,9 +181,18 @@ const FIVE: &[[u8; 8]] = &[[0, 0, 0, 0, 0, 0, 0, 5]];
 #[test]
 fn a_mark_names_what_was_stored(rt: HostRuntime) {
     let folder = folder_of(&rt, "overlay-marked", &[]).expect(&rt, "a folder");
-    assert!(rt; runs(&rt, &folder, FIRST));
-    assert!(rt; names(&rt, &folder, FIVE).expect(&rt, "a mark"));
-    assert!(rt; runs_blind(&rt, &folder, NOT_OPENED) && runs(&rt, &folder, WAITING));
-    assert!(rt; names(&rt, &folder, &[]).expect(&rt, "a mark"));
-    fs::remove_dir_all(&rt, folder.as_path()).expect(&rt, "a folder");
+    run(&rt, &rt, &folder, FIRST);
+    require(
+        &rt,
+        names(&rt, &folder, FIVE).expect(&rt, "a mark"),
+        "a mark of file 5",
+    );
+    run_blind(&rt, &rt, &folder, NOT_OPENED);
+    run(&rt, &rt, &folder, WAITING);
+    require(
+        &rt,
+        names(&rt, &folder, &[]).expect(&rt, "a mark"),
+        "a mark of no file",
+    );
+    remove(&rt, folder).expect(&rt, "a folder");
 }

@@ -2,6 +2,8 @@
 //! them.
 
 use crate::formats::{NEW_DIRECTORY, NEW_FILE, cut, one_file, stored, told};
+use crate::kinds::reads;
+use crate::told::require;
 use eden_model::{Id, Kind, Origin, Outside};
 use eden_overlay::{Files, GetFault, MemoryFiles, Overlay};
 use eden_overlay_format::{
@@ -9,6 +11,7 @@ use eden_overlay_format::{
     encode_numbers,
 };
 use std::alloc::Global;
+use std::process::Abort;
 
 /// How stored numbers of version 1 begin, and those of version 2.
 pub const NUMBERS: [u8; 8] = [0x4f, 0x56, 0x44, 0x4e, 0, 0, 0, 1];
@@ -46,19 +49,42 @@ fn is_test_txt(entry: &StoredEntry) -> bool {
         && entry.number == 2
 }
 
+/// Whether the file is read as that tree's numbers.
+fn are_numbers(alloc: Global, file: &[u8]) -> bool {
+    let answer = decode_numbers(alloc, file);
+    let are_they = match &answer {
+        Err(_) => false,
+        Ok(numbers) => {
+            numbers.tree == Id { bytes: TREE }
+                && numbers.entries.len() == 1
+                && is_test_txt(&numbers.entries[0])
+        }
+    };
+    drop(answer);
+    are_they
+}
+
+/// The file is read so, and as nothing else.
+fn read(rt: &impl Abort, alloc: Global, file: &[u8]) {
+    require(rt, are_numbers(alloc, file), "the tree's numbers");
+    require(
+        rt,
+        decode_file(file).err() == Some(Refusal::BadIdentifier),
+        "no content",
+    );
+    let fault = decode_dir(alloc, file).err();
+    let want = DecodeFault::Refused(Refusal::BadIdentifier);
+    require(rt, fault == Some(want), "no directory");
+}
+
 #[test]
 fn numbers_are_read(rt: HostRuntime) {
-    let new = told(&rt, rt.alloc(), &NEW_NUMBERS, &DIGEST, 0, BODY);
-    let old = stored(&rt, rt.alloc(), &NUMBERS, 7, BODY);
-    for file in [&new, &old] {
-        let numbers = decode_numbers(rt.alloc(), file).expect(&rt, "numbers");
-        assert!(rt; numbers.tree == Id { bytes: TREE });
-        assert!(rt; numbers.entries.len() == 1);
-        assert!(rt; is_test_txt(&numbers.entries[0]));
-        assert!(rt; decode_file(file).err() == Some(Refusal::BadIdentifier));
-        let fault = decode_dir(rt.alloc(), file).err();
-        assert!(rt; fault == Some(DecodeFault::Refused(Refusal::BadIdentifier)));
-    }
+    read(
+        &rt,
+        rt.alloc(),
+        &told(&rt, rt.alloc(), &NEW_NUMBERS, &DIGEST, 0, BODY),
+    );
+    read(&rt, rt.alloc(), &stored(&rt, rt.alloc(), &NUMBERS, 7, BODY));
 }
 
 /// Why the file is refused; none where it is read, or no memory was left.
@@ -78,30 +104,47 @@ const OWN_ENTRY: &[u8] =
     b"\x22\x22\x22\x22\x22\x22\x22\x22\x22\x22\x22\x22\x22\x22\x22\x22\x22\x22\x22\x22\
     \x00\x00\x00\x01\x00\x01\x00\x00\x00\x00\x00\x00\x00\x05\x01a";
 
+/// How a file of version 2 begins, its digest, how many bytes of it there are, of 127, and why it is refused.
+const BAD: &[(&[u8], &[u8], usize, Refusal)] = &[
+    (&NEW_NUMBERS, &DIGEST, 63, Refusal::Short),
+    (&NEW_NUMBERS, &DIGEST, 126, Refusal::BadLength),
+    (&NEW_NUMBERS, &TREE, 127, Refusal::BadDigest),
+    (&NEW_FILE, &DIGEST, 127, Refusal::BadIdentifier),
+    (&NEW_DIRECTORY, &DIGEST, 127, Refusal::BadIdentifier),
+];
+
+/// The body of one of version 1, and how many bytes of the file there are, of 127 and 100.
+const OLD_BAD: &[(&[u8], usize)] = &[(BODY, 126), (BODY, 83), (OWN_ENTRY, 100)];
+
+/// Those bytes of the file, of that many, are refused so.
+fn refuse(rt: &impl Abort, alloc: Global, file: &[u8], len: usize, why: Refusal) {
+    require(
+        rt,
+        refusal(alloc, cut(rt, file, len)) == Some(why),
+        "refused so",
+    );
+}
+
 #[test]
 fn bad_numbers(rt: HostRuntime) {
-    let new = told(&rt, rt.alloc(), &NEW_NUMBERS, &DIGEST, 0, BODY);
-    assert!(rt; refusal(rt.alloc(), cut(&rt, &new, 63)) == Some(Refusal::Short));
-    assert!(rt; refusal(rt.alloc(), cut(&rt, &new, 126)) == Some(Refusal::BadLength));
-    let other = told(&rt, rt.alloc(), &NEW_NUMBERS, &TREE, 0, BODY);
-    assert!(rt; refusal(rt.alloc(), &other) == Some(Refusal::BadDigest));
-    for front in [&NEW_FILE, &NEW_DIRECTORY] {
-        let file = told(&rt, rt.alloc(), front, &DIGEST, 0, BODY);
-        assert!(rt; refusal(rt.alloc(), &file) == Some(Refusal::BadIdentifier));
+    for (front, digest, len, why) in BAD {
+        let file = told(&rt, rt.alloc(), front, digest, 0, BODY);
+        require(&rt, file.len() == 127, "a header and a body");
+        refuse(&rt, rt.alloc(), &file, *len, *why);
     }
-    let old = stored(&rt, rt.alloc(), &NUMBERS, 0, BODY);
-    assert!(rt; refusal(rt.alloc(), cut(&rt, &old, 126)) == Some(Refusal::BadBody));
-    assert!(rt; refusal(rt.alloc(), cut(&rt, &old, 83)) == Some(Refusal::BadBody));
-    let own = stored(&rt, rt.alloc(), &NUMBERS, 0, OWN_ENTRY);
-    assert!(rt; refusal(rt.alloc(), &own) == Some(Refusal::BadBody));
+    for (body, len) in OLD_BAD {
+        let file = stored(&rt, rt.alloc(), &NUMBERS, 0, body);
+        refuse(&rt, rt.alloc(), &file, *len, Refusal::BadBody);
+    }
 }
 
 #[test]
 fn no_entries(rt: HostRuntime) {
     let file = stored(&rt, rt.alloc(), &NUMBERS, 0, NO_ENTRIES);
     let numbers = decode_numbers(rt.alloc(), &file).expect(&rt, "numbers");
-    assert!(rt; numbers.tree == Id { bytes: [0x22; 20] });
-    assert!(rt; numbers.entries.is_empty());
+    let is_so = numbers.tree == Id { bytes: [0x22; 20] } && numbers.entries.is_empty();
+    drop(numbers);
+    require(&rt, is_so, "the id, and no entries");
 }
 
 type InMemory = Overlay<Outside, MemoryFiles<Outside>>;
@@ -116,52 +159,95 @@ fn fault_of(
     overlay.get_numbers(alloc, number, Id { bytes: tree }).err()
 }
 
+/// An overlay over one file, number 1, of these bytes.
+fn overlay_of(rt: &impl Abort, alloc: Global, file: &[u8]) -> InMemory {
+    let mut files = MemoryFiles::<Outside>::new(alloc);
+    files.replace(alloc, 1, file).expect(rt, "memory");
+    Overlay::new(alloc, files)
+}
+
+/// Whether the tree's numbers are got.
+fn are_got(overlay: &mut InMemory, alloc: Global) -> bool {
+    let answer = overlay.get_numbers(alloc, 1, Id { bytes: TREE });
+    let are_they = match &answer {
+        Ok(found) => found.len() == 1 && is_test_txt(&found[0]),
+        Err(_) => false,
+    };
+    drop(answer);
+    are_they
+}
+
+const ABSENT: Option<GetFault> = Some(GetFault::Absent);
+
 #[test]
 fn numbers_are_got_for_their_tree(rt: HostRuntime) {
-    let mut files = MemoryFiles::<Outside>::new(rt.alloc());
-    let stored = told(&rt, rt.alloc(), &NEW_NUMBERS, &DIGEST, 0, BODY);
-    files.replace(rt.alloc(), 1, &stored).expect(&rt, "memory");
-    let mut overlay = Overlay::<Outside, _>::new(rt.alloc(), files);
-    let tree = Id { bytes: TREE };
-    let found = overlay
-        .get_numbers(rt.alloc(), 1, tree)
-        .expect(&rt, "numbers");
-    assert!(rt; found.len() == 1);
-    assert!(rt; is_test_txt(&found[0]));
-    assert!(rt; fault_of(&mut overlay, rt.alloc(), 1, BLOB) == Some(GetFault::Absent));
-    assert!(rt; fault_of(&mut overlay, rt.alloc(), 2, TREE) == Some(GetFault::Absent));
-    assert!(rt; overlay.is_rooted() == Ok(false));
-    assert!(rt; overlay.rescan(rt.alloc(), tree) == Ok(3));
-    assert!(rt; overlay.rescan(rt.alloc(), Id { bytes: BLOB }) == Ok(2));
+    let alloc = rt.alloc();
+    let mut overlay = overlay_of(
+        &rt,
+        alloc,
+        &told(&rt, alloc, &NEW_NUMBERS, &DIGEST, 0, BODY),
+    );
+    require(&rt, are_got(&mut overlay, alloc), "the tree's numbers");
+    require(
+        &rt,
+        fault_of(&mut overlay, alloc, 1, BLOB) == ABSENT,
+        "none for another tree",
+    );
+    require(
+        &rt,
+        fault_of(&mut overlay, alloc, 2, TREE) == ABSENT,
+        "none for another number",
+    );
+    require(&rt, overlay.is_rooted() == Ok(false), "no root of its own");
+    require(
+        &rt,
+        overlay.rescan(alloc, Id { bytes: TREE }) == Ok(3),
+        "a number counted",
+    );
+    require(
+        &rt,
+        overlay.rescan(alloc, Id { bytes: BLOB }) == Ok(2),
+        "none counted",
+    );
+    drop(overlay);
 }
 
 #[test]
 fn damaged_numbers_are_told(rt: HostRuntime) {
-    let mut files = MemoryFiles::<Outside>::new(rt.alloc());
-    let other = told(&rt, rt.alloc(), &NEW_NUMBERS, &TREE, 0, BODY);
-    files.replace(rt.alloc(), 1, &other).expect(&rt, "memory");
-    let mut overlay = Overlay::<Outside, _>::new(rt.alloc(), files);
+    let alloc = rt.alloc();
+    let mut overlay = overlay_of(&rt, alloc, &told(&rt, alloc, &NEW_NUMBERS, &TREE, 0, BODY));
     let damaged = Some(GetFault::Damaged(Refusal::BadDigest));
-    assert!(rt; fault_of(&mut overlay, rt.alloc(), 1, TREE) == damaged);
-    assert!(rt; fault_of(&mut overlay, rt.alloc(), 1, BLOB) == damaged);
+    require(
+        &rt,
+        fault_of(&mut overlay, alloc, 1, TREE) == damaged,
+        "damaged",
+    );
+    require(
+        &rt,
+        fault_of(&mut overlay, alloc, 1, BLOB) == damaged,
+        "damaged for any tree",
+    );
+    drop(overlay);
+}
+
+/// Whether the first file has these bytes.
+fn is_stored<F: Files<Outside>>(files: F, alloc: Global, want: &[u8]) -> bool {
+    let mut files = files;
+    reads(&mut files, alloc, 1, want)
 }
 
 #[test]
 fn numbers_are_written_and_stored(rt: HostRuntime) {
-    let entries = one_file(&rt, rt.alloc(), Origin::Object(Id { bytes: BLOB }));
-    let tree = Id { bytes: TREE };
-    let want = told(&rt, rt.alloc(), &NEW_NUMBERS, &DIGEST, 0, BODY);
-    let file = encode_numbers(rt.alloc(), tree, &entries).expect(&rt, "memory");
-    assert!(rt; file == want);
-    let mut overlay = Overlay::<Outside, _>::new(
-        rt.alloc(),
-        MemoryFiles::<Outside>::new(rt.alloc()),
-    );
-    let listing = Listing::of(overlay.room(rt.alloc()), &entries).expect(&rt, "memory");
+    let (alloc, tree) = (rt.alloc(), Id { bytes: TREE });
+    let entries = one_file(&rt, alloc, Origin::Object(Id { bytes: BLOB }));
+    let want = told(&rt, alloc, &NEW_NUMBERS, &DIGEST, 0, BODY);
+    let file = encode_numbers(alloc, tree, &entries).expect(&rt, "memory");
+    require(&rt, file == want, "written");
+    let mut overlay = Overlay::<Outside, _>::new(alloc, MemoryFiles::<Outside>::new(alloc));
+    let listing = Listing::of(overlay.room(alloc), &entries).expect(&rt, "memory");
     overlay
-        .put_numbers(rt.alloc(), 1, tree, listing)
+        .put_numbers(alloc, 1, tree, listing)
         .expect(&rt, "memory");
-    let mut files = overlay.into_files();
-    let bytes = files.read(rt.alloc(), 1).expect(&rt, "memory");
-    assert!(rt; bytes.is_some_and(|bytes| bytes == want));
+    drop(entries);
+    require(&rt, is_stored(overlay.into_files(), alloc, &want), "stored");
 }

@@ -1,6 +1,7 @@
 //! Orphans of an overlay, and what interrupted stores left in a folder: what is found, counted and removed.
 use crate::folders::{Made, folder_of, remove};
 use crate::formats::{NEW_DIRECTORY, NEW_FILE, OWN_BODY, OWN_DIGEST, told};
+use crate::told::require;
 use eden_model::{Id, Outside};
 use eden_overlay::{
     FailingFiles, Files, FilesFault, FolderFiles, MemoryFiles, Overlay, Removed, RescanFault,
@@ -53,11 +54,15 @@ fn put_content<F: Files<Outside>>(rt: &impl Abort, alloc: Global, files: &mut F)
 }
 
 // Whether these are the numbers of the stored files.
-fn lists<F: Files<Outside>>(files: &mut F, alloc: Global, want: &[u64]) -> bool {
-    match files.list(alloc) {
+fn lists<F: Files<Outside>>(files: F, alloc: Global, want: &[u64]) -> bool {
+    let mut files = files;
+    let answer = files.list(alloc);
+    let is_listed = match &answer {
         Ok(numbers) => numbers.as_slice() == want,
         Err(_) => false,
-    }
+    };
+    drop(answer);
+    is_listed
 }
 
 // Finds the orphans, counts their bytes, and removes them.
@@ -94,7 +99,8 @@ fn gives<F: Files<Outside>>(
 // Whether removals over those files give those answers, and leave files of these numbers.
 fn leaves<F: Files<Outside>>(alloc: Global, files: F, answers: &[Answer], left: &[u64]) -> bool {
     let mut overlay = Overlay::<Outside, _>::new(alloc, files);
-    gives(&mut overlay, alloc, answers) && lists(&mut overlay.into_files(), alloc, left)
+    let is_given = gives(&mut overlay, alloc, answers);
+    lists(overlay.into_files(), alloc, left) && is_given
 }
 
 #[test]
@@ -194,8 +200,17 @@ fn what_was_being_stored_is_removed(rt: HostRuntime) {
         Removed { files: 2, bytes: 3 },
         Removed { files: 0, bytes: 0 },
     ];
-    assert!(rt; all_go(&rt, folder.clone().expect(&rt, "memory"), removed));
-    assert!(rt; count_names(&rt, &folder) == Some(LEFT.len() - 2));
+    let asked = folder.clone().expect(&rt, "memory");
+    require(
+        &rt,
+        all_go(&rt, asked, removed),
+        "two removed, and then none",
+    );
+    require(
+        &rt,
+        count_names(&rt, &folder) == Some(LEFT.len() - 2),
+        "all else left",
+    );
     remove(&rt, folder).expect(&rt, "a folder");
 }
 
@@ -217,8 +232,12 @@ fn a_failing_removal_is_told_and_counted(rt: HostRuntime) {
     let folder = folder_of(&rt, "overlay-unremoved", LEFT).expect(&rt, "a folder");
     for call in &[Call::List, Call::Look, Call::Remove] {
         let asked = folder.clone().expect(&rt, "memory");
-        assert!(rt; is_told(&rt, asked, *call));
+        require(&rt, is_told(&rt, asked, *call), "a failure told");
     }
-    assert!(rt; count_names(&rt, &folder) == Some(LEFT.len()));
+    require(
+        &rt,
+        count_names(&rt, &folder) == Some(LEFT.len()),
+        "all left",
+    );
     remove(&rt, folder).expect(&rt, "a folder");
 }

@@ -1,6 +1,7 @@
 //! A pass over the directories of an overlay: the next number that it finds, or what is wrong with the files.
 use crate::formats::{DIRECTORY, FILE, stored};
 use crate::numbers::NUMBERS;
+use crate::told::require;
 use eden_model::{Id, Outside};
 use eden_overlay::{Files, MemoryFiles, Overlay, RescanFault};
 use eden_overlay_format::Refusal;
@@ -44,8 +45,11 @@ type Stored = (u64, &'static [u8; 8], &'static [u8]);
 /// The greatest number of an entry.
 const LAST: u64 = (1 << 63) - 1;
 
+/// The next number, or what is wrong.
+type Found = Result<u64, RescanFault>;
+
 /// The files, and what a pass over them finds.
-const PASSES: &[(&[Stored], Result<u64, RescanFault>)] = &[
+const PASSES: &[(&[Stored], Found)] = &[
     (&[], Ok(2)),
     // the root's numbers, and those of a directory in it
     (&[(1, &NUMBERS, ROOT_NUMBERS)], Ok(4)),
@@ -126,11 +130,19 @@ fn overlay_of(
     Overlay::new(alloc, memory)
 }
 
+/// What a pass over the overlay finds.
+fn found(alloc: Global, overlay: Overlay<Outside, MemoryFiles<Outside>>) -> Found {
+    let mut overlay = overlay;
+    let answer = overlay.rescan(alloc, ROOT);
+    drop(overlay);
+    answer
+}
+
 #[test]
 fn what_a_pass_finds(rt: HostRuntime) {
     for (row, (files, want)) in PASSES.iter().enumerate() {
-        let mut overlay = overlay_of(&rt, rt.alloc(), files);
-        assert!(rt; overlay.rescan(rt.alloc(), ROOT) == *want, "row {row}");
+        let answer = found(rt.alloc(), overlay_of(&rt, rt.alloc(), files));
+        assert!(rt; answer == *want, "row {row}");
     }
 }
 
@@ -138,8 +150,12 @@ fn what_a_pass_finds(rt: HostRuntime) {
 fn a_file_without_a_header_has_no_numbers(rt: HostRuntime) {
     let mut files = overlay_of(&rt, rt.alloc(), &[(1, &NUMBERS, ROOT_NUMBERS)]).into_files();
     files.replace(rt.alloc(), 3, b"OVDN").expect(&rt, "memory");
-    let mut overlay = Overlay::<Outside, _>::new(rt.alloc(), files);
-    assert!(rt; overlay.rescan(rt.alloc(), ROOT) == Ok(4));
+    let overlay = Overlay::<Outside, _>::new(rt.alloc(), files);
+    require(
+        &rt,
+        found(rt.alloc(), overlay) == Ok(4),
+        "the root's numbers alone",
+    );
 }
 
 #[test]
@@ -152,5 +168,6 @@ fn files_that_saved_numbers_name_are_no_orphans(rt: HostRuntime) {
     ];
     let mut overlay = overlay_of(&rt, rt.alloc(), files);
     let orphans = overlay.orphans(rt.alloc(), ROOT).expect(&rt, "orphans");
-    assert!(rt; orphans.as_slice() == [10].as_slice());
+    drop(overlay);
+    require(&rt, orphans.as_slice() == [10].as_slice(), "file 10 alone");
 }

@@ -1,8 +1,9 @@
 //! The answers of sources in memory and in folders.
 use crate::folders::{Made, folder_of, remove};
+use crate::told::require;
 use eden_model::{Cause, Id, Outside};
 use eden_source::{FolderSource, MemorySource, Source};
-use std::alloc::{AllocError, Global};
+use std::alloc::Global;
 use std::io::ErrorKind;
 use std::path::PathBuf;
 use std::process::Abort;
@@ -15,11 +16,13 @@ fn id_starting(first: u8) -> Id {
     id
 }
 
-fn is_answer(answer: &Result<Vec<u8>, Cause>, want: Result<&[u8], Cause>) -> bool {
-    match answer {
+fn is_answer(answer: Result<Vec<u8>, Cause>, want: Result<&[u8], Cause>) -> bool {
+    let is_so = match &answer {
         Ok(framed) => want == Ok(framed.as_slice()),
         Err(cause) => want == Err(*cause),
-    }
+    };
+    drop(answer);
+    is_so
 }
 
 // Whether the source gives that answer.
@@ -29,7 +32,7 @@ fn gives<S: Source<Outside>>(
     id: Id,
     want: Result<&[u8], Cause>,
 ) -> bool {
-    is_answer(&source.fetch(alloc, id), want)
+    is_answer(source.fetch(alloc, id), want)
 }
 
 // An id of that number.
@@ -67,7 +70,8 @@ fn memory_gives_what_was_put(rt: HostRuntime) {
     let long = [7; 1000].repeat(alloc, 100).expect(&rt, "memory");
     let mut source = MemorySource::<Outside>::new(alloc);
     put_many(&rt, alloc, &mut source, &long);
-    assert!(rt; gives_many(&mut source, alloc, &long));
+    require(&rt, gives_many(&mut source, alloc, &long), "each object");
+    drop(source);
 }
 
 #[test]
@@ -76,7 +80,9 @@ fn memory_may_lie(rt: HostRuntime) {
     let mut source = MemorySource::<Outside>::new(alloc);
     put(&rt, alloc, &mut source, VERSION_1.id, VERSION_1.framed);
     put(&rt, alloc, &mut source, VERSION_1.id, VERSION_2.framed);
-    assert!(rt; gives(&mut source, alloc, VERSION_1.id, Ok(VERSION_2.framed)));
+    let is_given = gives(&mut source, alloc, VERSION_1.id, Ok(VERSION_2.framed));
+    drop(source);
+    require(&rt, is_given, "the other version");
 }
 
 // The framed bytes of `VERSION_1`.
@@ -137,9 +143,11 @@ fn gives_all<S: Source<Outside>>(source: &mut S, alloc: Global) -> bool {
 fn folder_gives_its_files(rt: HostRuntime) {
     let folder = folder_of(&rt, "source", OBJECTS).expect(&rt, "a folder");
     let mut source = FolderSource::new(&rt, folder.clone().expect(&rt, "memory"));
-    assert!(rt; gives_all(&mut source, rt.alloc()));
+    require(&rt, gives_all(&mut source, rt.alloc()), "each answer");
     remove(&rt, folder).expect(&rt, "a folder");
-    assert!(rt; gives(&mut source, rt.alloc(), VERSION_1.id, Err(Cause::Missing)));
+    let is_missing = gives(&mut source, rt.alloc(), VERSION_1.id, Err(Cause::Missing));
+    drop(source);
+    require(&rt, is_missing, "no object without a folder");
 }
 
 // By an id's first byte: 83 has an object of 8 MiB, 84 the longest, and 85 one of a byte more.
@@ -163,47 +171,61 @@ const LONG_OBJECTS: &[(&str, Made)] = &[
 
 // How many bytes the source gives for the id.
 fn given<S: Source<Outside>>(source: &mut S, alloc: Global, first: u8) -> Option<usize> {
-    match source.fetch(alloc, id_starting(first)) {
+    let answer = source.fetch(alloc, id_starting(first));
+    let length = match &answer {
         Ok(framed) => Some(framed.len()),
         Err(_) => None,
-    }
+    };
+    drop(answer);
+    length
 }
 
 // The same of the folder's source.
-fn length_in(rt: &HostRuntime, folder: &PathBuf, first: u8) -> Option<usize> {
-    let mut source = FolderSource::new(rt, folder.clone().ok()?);
-    given(&mut source, rt.alloc(), first)
+fn length_in(rt: &impl Abort, system: &HostRuntime, folder: &PathBuf, first: u8) -> Option<usize> {
+    let mut source = FolderSource::new(system, folder.clone().expect(rt, "memory"));
+    let length = given(&mut source, system.alloc(), first);
+    drop(source);
+    length
 }
 
 // The folder's source, where that call of the system fails so.
 fn failing(
-    rt: &HostRuntime,
+    rt: &impl Abort,
+    system: &HostRuntime,
     folder: &PathBuf,
     call: Call,
     kind: ErrorKind,
-) -> Result<FolderSource<FaultySystem<'static, HostRuntime>>, AllocError> {
+) -> FolderSource<FaultySystem<'static, HostRuntime>> {
     let system = FaultySystem {
-        files: *rt,
+        files: *system,
         call,
         kind,
         instead: None,
     };
-    Ok(FolderSource::new(system, folder.clone()?))
+    FolderSource::new(system, folder.clone().expect(rt, "memory"))
 }
 
 // Why two objects aren't given: reads that fail tell which are read at all, so that none of 2^30 bytes has to be.
-fn refuses_long<S: Source<Outside>>(source: &mut S, alloc: Global) -> bool {
-    gives(source, alloc, id_starting(0x84), Err(Cause::Device))
-        && gives(source, alloc, id_starting(0x85), Err(Cause::TooLarge))
+fn refuses_long<S: Source<Outside> + Drop>(source: S, alloc: Global) -> bool {
+    let mut source = source;
+    gives(&mut source, alloc, id_starting(0x84), Err(Cause::Device))
+        && gives(&mut source, alloc, id_starting(0x85), Err(Cause::TooLarge))
 }
 
 #[test]
 fn folder_gives_long_files(rt: HostRuntime) {
     let folder = folder_of(&rt, "source-long", LONG_OBJECTS).expect(&rt, "a folder");
-    assert!(rt; length_in(&rt, &folder, 0x83) == Some(8_388_608));
-    let source = failing(&rt, &folder, Call::Read, ErrorKind::ConnectionReset);
-    let mut source = source.expect(&rt, "memory");
-    assert!(rt; refuses_long(&mut source, rt.alloc()));
+    require(
+        &rt,
+        length_in(&rt, &rt, &folder, 0x83) == Some(8_388_608),
+        "all of 8 MiB",
+    );
+    let source = failing(&rt, &rt, &folder, Call::Read, ErrorKind::ConnectionReset);
+    require(
+        &rt,
+        refuses_long(source, rt.alloc()),
+        "the longest read, and no other",
+    );
     remove(&rt, folder).expect(&rt, "a folder");
 }
 
@@ -213,27 +235,30 @@ const KINDS: &[(ErrorKind, Cause, u64)] = &[
 ];
 
 // Whether each of two questions has that answer, and so many failures are counted then.
-fn fails<S: Source<Outside>>(source: &mut S, alloc: Global, want: Cause, failures: u64) -> bool {
-    gives(source, alloc, VERSION_1.id, Err(want))
-        && gives(source, alloc, VERSION_1.id, Err(want))
+fn fails<S: Source<Outside> + Drop>(source: S, alloc: Global, want: Cause, failures: u64) -> bool {
+    let mut source = source;
+    gives(&mut source, alloc, VERSION_1.id, Err(want))
+        && gives(&mut source, alloc, VERSION_1.id, Err(want))
         && source.failures() == failures
 }
 
-// Whether each call's failure of that kind is told so.
+// Each call's failure of that kind is told so.
 fn all_fail(
-    rt: &HostRuntime,
+    rt: &impl Abort,
+    system: &HostRuntime,
     folder: &PathBuf,
     kind: ErrorKind,
     want: Cause,
     failures: u64,
-) -> Result<bool, AllocError> {
+) {
     for call in &[Call::Look, Call::Open, Call::Read] {
-        let mut source = failing(rt, folder, *call, kind)?;
-        if !fails(&mut source, rt.alloc(), want, failures) {
-            return Ok(false);
-        }
+        let source = failing(rt, system, folder, *call, kind);
+        require(
+            rt,
+            fails(source, system.alloc(), want, failures),
+            "a failure told",
+        );
     }
-    Ok(true)
 }
 
 // A device that fails is no missing object, and is counted; want of memory is neither.
@@ -241,7 +266,7 @@ fn all_fail(
 fn failures_are_counted(rt: HostRuntime) {
     let folder = folder_of(&rt, "source-failures", OBJECTS).expect(&rt, "a folder");
     for (kind, want, failures) in KINDS {
-        assert!(rt; all_fail(&rt, &folder, *kind, *want, *failures) == Ok(true));
+        all_fail(&rt, &rt, &folder, *kind, *want, *failures);
     }
     remove(&rt, folder).expect(&rt, "a folder");
 }

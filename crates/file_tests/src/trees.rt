@@ -1,5 +1,6 @@
 //! Directories in memory: a subtree that moves, a path that is changed, and no memory.
 use crate::formats;
+use crate::told::require;
 use eden_model::{Kind, Name, Origin};
 use eden_tree::{Change, Dir, Entry};
 use linked_list_allocator::LocalHeap;
@@ -36,7 +37,10 @@ fn entry<A: Allocator>(number: u64, child: Option<Box<Dir<A>, A>>) -> Entry<A> {
 }
 
 fn put(rt: &impl Abort, dir: &mut Dir<Global>, name: Name, entry: Entry<Global>) {
-    assert!(rt; dir.insert(name, entry).is_ok());
+    let answer = dir.insert(name, entry);
+    let is_put = answer.is_ok();
+    drop(answer);
+    require(rt, is_put, "put");
 }
 
 /// A directory of the names of the first numbers.
@@ -76,7 +80,11 @@ fn nested(rt: &impl Abort, alloc: Global, levels: u64) -> Dir<Global> {
 fn take_number<A: Allocator>(dir: &mut Dir<A>, key: &Name) -> Option<u64> {
     match dir.remove(key) {
         None => None,
-        Some(entry) => Some(entry.number),
+        Some(entry) => {
+            let number = entry.number;
+            drop(entry);
+            Some(number)
+        }
     }
 }
 
@@ -108,8 +116,11 @@ fn put_into_both<A: Allocator>(
     match dir.insert(copy, entry(number, None)) {
         Ok(()) => put_new(rt, map, key, number),
         Err((back, handed)) => {
-            assert!(rt; map.get(&key).is_some());
-            assert!(rt; are_those(&back, &handed, &key, number));
+            require(rt, map.get(&key).is_some(), "in the map");
+            require(rt, are_those(&back, &handed, &key, number), "handed back");
+            drop(back);
+            drop(handed);
+            drop(key);
         }
     }
 }
@@ -163,6 +174,8 @@ fn random_changes_agree_with_an_ordered_map(rt: HostRuntime) {
     let mut dir = Dir::new(rt.alloc(), 0);
     let mut map = BTreeMap::new(rt.alloc());
     change_often(&rt, rt.alloc(), &mut dir, &mut map);
+    drop(dir);
+    drop(map);
 }
 
 /// Whether what came back is what was given under that number, which the directory lacks.
@@ -184,8 +197,10 @@ fn finds_room<A: Allocator>(rt: &impl Abort, alloc: Global, dir: &mut Dir<A>, nu
     match dir.insert(name(rt, alloc, number), entry(u64::from(number), None)) {
         Ok(()) => true,
         Err((back, handed)) => {
-            assert!(rt; is_handed_back(rt, alloc, dir, &back, &handed, number));
-            assert!(rt; dir.count() == before);
+            let is_so = is_handed_back(rt, alloc, dir, &back, &handed, number);
+            drop(back);
+            drop(handed);
+            require(rt, is_so && dir.count() == before, "handed back");
             false
         }
     }
@@ -205,9 +220,11 @@ fn fill<A: Allocator>(rt: &impl Abort, alloc: Global, dir: &mut Dir<A>) -> u32 {
 fn take_first<A: Allocator>(rt: &impl Abort, dir: &mut Dir<A>, key: &Name) -> u64 {
     assert!(rt; dir.get(key).is_some());
     let was = dir.replace(key, entry(1, None));
+    let number = was.number;
+    drop(was);
     assert!(rt; dir.detach(key).is_none() && dir.at_mut(0).is_some());
     assert!(rt; take_number(dir, key) == Some(1));
-    was.number
+    number
 }
 
 /// Takes the first entries out of a directory of so many: that needs no room.
@@ -239,9 +256,10 @@ fn fill_from(rt: &impl Abort, alloc: Global, heap: &LocalHeap) -> u32 {
     let mut dir = Dir::new(heap, 0);
     let count = fill(rt, alloc, &mut dir);
     let rest = rest_of(rt, alloc, heap);
-    assert!(rt; heap.free() == 0);
+    require(rt, heap.free() == 0, "no room");
     take_some(rt, alloc, &mut dir, count);
     drop(rest);
+    drop(dir);
     count
 }
 
@@ -249,7 +267,8 @@ fn fill_from(rt: &impl Abort, alloc: Global, heap: &LocalHeap) -> u32 {
 fn room_in(rt: &impl Abort, alloc: Global, bytes: usize) -> u32 {
     let heap = LocalHeap::new(alloc, bytes).expect(rt, "memory");
     let count = fill_from(rt, alloc, &heap);
-    assert!(rt; heap.used() == 0);
+    require(rt, heap.used() == 0, "all given back");
+    drop(heap);
     count
 }
 
@@ -286,13 +305,19 @@ fn attach_where_free<A: Allocator>(
 fn remove_loaded<A: Allocator>(rt: &impl Abort, dir: &mut Dir<A>, name: &Name) {
     let entry = dir.remove(name).expect(rt, "an entry");
     let child = entry.child.expect(rt, "a loaded directory");
-    assert!(rt; child.stamp() == 2 && !child.unsaved());
+    let is_so = child.stamp() == 2 && !child.unsaved();
+    drop(child);
+    require(rt, is_so, "the directory that was stamped at 2");
 }
 
 /// Takes the only loaded directory out.
 fn detach_loaded(rt: &impl Abort, dir: &mut Dir<Global>, name: &Name) -> Box<Dir<Global>> {
     let loaded = dir.detach(name).expect(rt, "a loaded directory");
-    assert!(rt; dir.depth() == 1 && dir.detach(name).is_none());
+    require(rt, dir.depth() == 1, "no other loaded");
+    let again = dir.detach(name);
+    let is_none = again.is_none();
+    drop(again);
+    require(rt, is_none, "nothing left to take out");
     loaded
 }
 
@@ -315,6 +340,8 @@ fn a_subtree_moves_without_a_copy(rt: HostRuntime) {
     let mut from = nested(&rt, rt.alloc(), 4);
     let mut to = wide(&rt, rt.alloc(), 9);
     move_subtree(&rt, rt.alloc(), &mut from, &mut to);
+    drop(from);
+    drop(to);
 }
 
 /// Makes a directory of depth 256 and one of a million entries, and drops them.
@@ -377,14 +404,29 @@ fn sevens(rt: &impl Abort, alloc: Global) -> [Name; 3] {
 fn change_below(rt: &impl Abort, alloc: Global, root: &mut Entry<Global>) {
     let path = sevens(rt, alloc);
     stamp_and_mark(rt, root, &path);
-    assert!(rt; state_at(root, &path[..0]) == Some((77, false)));
-    assert!(rt; state_at(root, &path[..1]) == Some((77, false)));
-    assert!(rt; state_at(root, &path[..2]) == Some((0, true)));
+    require(
+        rt,
+        state_at(root, &path[..0]) == Some((77, false)),
+        "the root",
+    );
+    require(
+        rt,
+        state_at(root, &path[..1]) == Some((77, false)),
+        "the first level",
+    );
+    require(
+        rt,
+        state_at(root, &path[..2]) == Some((0, true)),
+        "the second level",
+    );
+    drop(path);
 }
 
 #[test]
 fn a_path_is_stamped_and_its_end_changed(rt: HostRuntime) {
     let dir = nested(&rt, rt.alloc(), 3);
     let child = boxed(&rt, rt.alloc(), dir);
-    change_below(&rt, rt.alloc(), &mut entry(1, Some(child)));
+    let mut root = entry(1, Some(child));
+    change_below(&rt, rt.alloc(), &mut root);
+    drop(root);
 }
