@@ -26,7 +26,7 @@ MOST_BRIDGED = 64 << 20
 MOST_READ = 65_536
 ROOT = 1
 HIDDEN = b"\xff" * 4
-# For how many seconds the kernel may keep what it is told.
+# For how many seconds the kernel may keep what it is told, but for the attributes of a file for which bytes wait.
 KEEP = 60
 UNTOLD = 4_294_967_295
 # A directory itself, and the one above it, come before its entries.
@@ -344,6 +344,10 @@ class FolderModel:
         return ATTRIBUTES.pack(int(inode), size, -(-size // 512), *(times if may_be else [0] * 6), MODES[kind], 1,
                                *self.owner, 0, 65_536, 0)
 
+    def kept_for(self, node: int) -> int:
+        """For how many seconds a node's attributes may be kept: not at all while something waits for it."""
+        return 0 if node in self.waits else KEEP
+
     def fresh(self) -> int:
         """The number of a node that is told of first."""
         told = self.number_told(0)
@@ -358,7 +362,7 @@ class FolderModel:
             self.given.add(node)
             self.places[node], self.nodes[place], self.counts[node] = place, node, 0
         self.counts[node] += 1
-        return ENTRY.pack(node, 0, KEEP, KEEP, 0, 0) + attributes
+        return ENTRY.pack(node, 0, KEEP, self.kept_for(node), 0, 0) + attributes
 
     # ---- messages about nodes
 
@@ -390,7 +394,7 @@ class FolderModel:
         """Nothing waits."""
 
     def getattr(self, node: int, *_: int) -> bytes:
-        return VALID.pack(KEEP, 0, 0) + self.attributes(self.path(node), VALID.size, node)
+        return VALID.pack(self.kept_for(node), 0, 0) + self.attributes(self.path(node), VALID.size, node)
 
     def setattr(self, node: int, valid: int, _: int, handle: int, size: int, *more: int) -> bytes:
         mode, user, group = more[7], more[9], more[10]

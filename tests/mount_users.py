@@ -252,6 +252,9 @@ PIECE = 300_000
 NOTED, SMALL = 50_000, 2_000
 # More small files than the journal, and what its reserve makes of it, has room for.
 MOST_CHANGES = 200
+# Small files that take more than the reserve, as numbered files, and less than the large one beside them.
+CUT_BESIDE = 40
+LINE, LINES = b"a line of a log, as long as most of them are\n", 100
 LIMIT = 4 << 20
 
 
@@ -314,6 +317,38 @@ def check_full_journal(folder: pathlib.Path, repository: pathlib.Path) -> None:
             gone = [path for path in (mount.folder / "moved", mount.folder / "plain.txt", below, more) if path.exists()]
             check("full journal: mounted again", (gone, (mount.folder / "small").read_bytes() == data), ([], True))
             check("full journal: the second end", (mount.end("SIGTERM"), mount.said()), (0, []))
+
+
+def append(path: pathlib.Path, data: bytes) -> int:
+    with path.open("ab") as file:
+        return file.write(data)
+
+
+def check_cut_on_full_disk(folder: pathlib.Path, repository: pathlib.Path) -> None:
+    """Where the overlay's disk is full a large file can be emptied, and its room is used then, though what was noted
+    besides takes more than the reserve."""
+    data = random.Random(3).randbytes(PIECE)
+    with small_disk(folder / "small", DISK) as disk:
+        if disk is None:
+            skip("a file that is emptied on a full disk", "no small disk may be mounted")
+            return
+        with MountGit(repository, "HEAD", folder / "mounted", "--overlay", disk / "overlay") as mount:
+            large, small = mount.folder / "large", [mount.folder / f"small {number}" for number in range(CUT_BESIDE)]
+            for path, stored in (large, data), *((path, data[:SMALL]) for path in small):
+                path.write_bytes(stored)
+            with filled_up(disk / "the rest"):
+                filled(mount.folder, data[:SMALL])
+                check("emptied: it isn't cut by a byte", tried(lambda: os.truncate(large, PIECE - 1)), "ENOSPC")
+                check("emptied: the file", (tried(large.write_bytes, b""), large.read_bytes()), (0, b""))
+                check("emptied: it grows again", {tried(append, large, LINE) for _ in range(LINES)}, {len(LINE)})
+                check("emptied: a removal", tried(small.pop().unlink), None)
+                check("emptied: with room", tried((mount.folder / "new").write_bytes, data[:NOTED]), NOTED)
+                check("emptied: the end", (mount.end("SIGTERM"), mount.said()), (0, []))
+        with MountGit(repository, "HEAD", folder / "mounted", "--overlay", disk / "overlay") as mount:
+            there = {path.read_bytes() for path in small}
+            check("emptied: what is there", (there, large.read_bytes()), ({data[:SMALL]}, LINE * LINES))
+            check("emptied: what came after it", (mount.folder / "new").read_bytes() == data[:NOTED], True)
+            check("emptied: the second end", (mount.end("SIGTERM"), mount.said()), (0, []))
 
 
 def check_killed_on_full_disk(folder: pathlib.Path, repository: pathlib.Path) -> None:

@@ -90,11 +90,11 @@ class Ended(Refusal):
 
 
 class Server(AddressServer):
-    """Answers one request at a time."""
+    """Answers one request at a time, and none while somebody else has the turn."""
 
-    def __init__(self, path: str, answers: Answers) -> None:
+    def __init__(self, path: str, answers: Answers, turn: threading.Lock) -> None:
         self.answers = answers
-        self.turn = threading.Lock()
+        self.turn = turn
         # Held while what a connection left is removed.
         self.removing = threading.Lock()
         super().__init__(path, Asked)
@@ -167,14 +167,19 @@ def text_of(fields: Fields, name: str) -> str:
 
 
 @contextlib.contextmanager
-def serving(folder: str, answers: Answers, is_to_stay: bool = False) -> Iterator[threading.Lock]:
+def serving(folder: str, answers: Answers, is_to_stay: bool = False,
+            turn: "threading.Lock | None" = None) -> Iterator[None]:
     """Answers what is asked at the folder's socket, until the block ends, and then still who has asked by then. Whoever
-    has the lock that is given lets nobody be answered meanwhile."""
-    server = Server(os.path.join(made_place(is_to_stay), name_for(folder)), answers)
+    has the turn lets nobody be answered meanwhile."""
+    server = Server(os.path.join(made_place(is_to_stay), name_for(folder)), answers, turn or threading.Lock())
     thread = threading.Thread(target=server.serve_forever, kwargs={"poll_interval": 0.05}, daemon=True)
-    thread.start()
     try:
-        yield server.turn
+        thread.start()
+    except RuntimeError as problem:
+        server.server_close()
+        raise Refusal(f"no thread can be started: {problem}") from None
+    try:
+        yield
     finally:
         if server.turn.acquire(timeout=SECONDS_TO_TAKE):
             server.turn.release()

@@ -39,6 +39,8 @@ from yakembi.programs import add_mountd, check_text, run_mountd, source_of
 # showed it, and has the folder's socket.
 SECONDS_LOCKED = 10
 SECONDS_BETWEEN_TRIES = 0.05
+# .. and so often where it takes longer.
+SECONDS_BETWEEN_LATER_TRIES = 1
 # Who waits longer for mountd to open an overlay is told.
 SECONDS_TO_OPEN = 3.0
 SLOW = "isn't open yet: after a kill all its files are looked at, which takes some seconds for thousands"
@@ -355,23 +357,46 @@ def said_of_disk(overlay: str) -> str:
 @contextlib.contextmanager
 def reachable(showing: kernel.Showing, answers: Answers, is_to_stay: bool) -> Iterator[threading.Lock]:
     """Answers other runs, but while somebody has the lock; where they can't reach this one the folder is shown all the
-    same. One that showed the folder before may still end, and is waited for a little."""
-    end = time.monotonic() + SECONDS_LOCKED
+    same. One that showed the folder before may still end: it is waited for a little, and once it has ended this one
+    answers all the same."""
+    turn, done = threading.Lock(), threading.Event()
     with contextlib.ExitStack() as stack:
-        turn = threading.Lock()
-        while True:
+        def why_not() -> Refusal | OSError | None:
             try:
-                turn = stack.enter_context(control.serving(showing.folder, answers, is_to_stay))
-                break
+                stack.enter_context(control.serving(showing.folder, answers, is_to_stay, turn))
             except (Refusal, OSError) as problem:
-                is_taken = isinstance(problem, OSError) and problem.errno == errno.EADDRINUSE
-                if not is_taken or time.monotonic() > end:
+                return problem
+            return None
+
+        def go_on() -> None:
+            while not done.wait(SECONDS_BETWEEN_LATER_TRIES):
+                problem = why_not()
+                if problem is None:
+                    tell(f"what {showing.folder} shows can be told and committed now")
+                    break
+                if not is_taken(problem):
                     tell(f"what {showing.folder} shows can't be told or committed: {control.said_of(problem)}")
                     break
-            if showing.is_ended:
-                break
+
+        end = time.monotonic() + SECONDS_LOCKED
+        while is_taken(problem := why_not()) and time.monotonic() < end and not showing.is_ended:
             time.sleep(SECONDS_BETWEEN_TRIES)
-        yield turn
+        trying = threading.Thread(target=go_on, daemon=True)
+        if problem is not None and not showing.is_ended:
+            tell(f"what {showing.folder} shows can't be told or committed: {control.said_of(problem)}")
+            if is_taken(problem):
+                trying.start()
+        try:
+            yield turn
+        finally:
+            done.set()
+            if trying.is_alive():
+                trying.join()
+
+
+def is_taken(problem: Refusal | OSError | None) -> bool:
+    """Whether another run has the folder's socket."""
+    return isinstance(problem, OSError) and problem.errno == errno.EADDRINUSE
 
 
 @contextlib.contextmanager

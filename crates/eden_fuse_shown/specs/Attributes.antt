@@ -1,5 +1,5 @@
 -- The attributes that the kernel is told of a node, and what is agreed on at the start.
-use Rattle.std.specs.Prelude.{ℕ, ◌+◌, ◌/◌, ◌%◌, ◌==◌, ◌&&◌, nat_le, bit_and, if◌then◌else◌}
+use Rattle.std.specs.Prelude.{ℕ, Option, Some, None, ◌+◌, ◌/◌, ◌%◌, ◌==◌, ◌&&◌, nat_le, bit_and, if◌then◌else◌}
 use Rattle.eden_model.specs.declared.kind.Kind.{Kind}
 use Rattle.eden_model.specs.declared.kind.Kind.TheVariants as kinds
 use Rattle.eden_fuse_format.specs.declared.answer.Answer.{Answer}
@@ -13,6 +13,8 @@ use Rattle.eden_fuse_format.specs.declared.structs.InitIn.{InitIn}
 use Rattle.eden_fuse_meaning.specs.declared.step.Owner.{Owner}
 use Rattle.eden_fuse_shown.specs.declared.manner.Manner.{Manner}
 use Rattle.eden_fuse_shown.specs.declared.times.Moments.{Moments}
+use Rattle.eden_fuse_shown.specs.Waiting.{Extent, extent_of, seen_length}
+use Rattle.eden_fuse_shown.specs.Waiting.{Table as Waits}
 
 -- octal 100644, 100755, 120777, 40755
 abbrev pub mode_of : Kind → ℕ
@@ -41,13 +43,30 @@ attr_of owner inode at kind size = record {
   blksize = 65536;
 }
 
--- .. of a node, whose own number the kernel asks by
-abbrev pub entry_of : Manner → ℕ → ℕ → Moments → Kind → ℕ → EntryOut
-entry_of m node inode at kind size =
-    record { nodeid = node; entry_valid = m.keep; attr_valid = m.keep; attr = attr_of m.owner inode at kind size }
+-- for how many seconds they are kept; not at all while bytes wait for the file, for these may be dropped yet
+abbrev pub kept_for : Manner → Option Extent → ℕ
+kept_for m None = m.keep
+kept_for m (Some e) = 0
 
-abbrev pub attributes_of : Manner → ℕ → Moments → Kind → ℕ → AttrOut
-attributes_of m inode at kind size = record { attr_valid = m.keep; attr = attr_of m.owner inode at kind size }
+-- .. of a node of whose file a mount tells that it is so long, as it is seen with what waits for it
+abbrev pub seen_attr : Manner → Waits → ℕ → ℕ → Moments → Kind → ℕ → Attr
+seen_attr m waits node inode at kind size = attr_of m.owner inode at kind (seen_length (extent_of waits node) size)
+
+-- a node that was found or made, whose own number the kernel asks by
+abbrev pub entry_of : Manner → Waits → ℕ → ℕ → Moments → Kind → ℕ → EntryOut
+entry_of m waits node inode at kind size = record {
+  nodeid = node;
+  entry_valid = m.keep;
+  attr_valid = kept_for m (extent_of waits node);
+  attr = seen_attr m waits node inode at kind size;
+}
+
+-- a node that the kernel knows
+abbrev pub attributes_of : Manner → Waits → ℕ → ℕ → Moments → Kind → ℕ → AttrOut
+attributes_of m waits node inode at kind size = record {
+  attr_valid = kept_for m (extent_of waits node);
+  attr = seen_attr m waits node inode at kind size;
+}
 
 -- an open file has no handle of its own; the kernel may keep its content (FOPEN_KEEP_CACHE, 2), and closes it without a FLUSH
 -- (FOPEN_NOFLUSH, 32) if it is opened for reading alone (O_RDONLY, 0 of O_ACCMODE, 3)

@@ -9,7 +9,6 @@ use Rattle.eden_model.specs.Faults.{obstacle_number}
 use Rattle.eden_model.specs.Trees.{Name, Path}
 use Rattle.eden_fuse_format.specs.declared.answer.Answer.{Answer}
 use Rattle.eden_fuse_format.specs.declared.answer.Answer.TheVariants as answer
-use Rattle.eden_fuse_format.specs.declared.answer.EntryOut.{EntryOut}
 use Rattle.eden_fuse_format.specs.declared.message.Header.{Header}
 use Rattle.eden_fuse_format.specs.declared.structs.ForgetOne.{ForgetOne}
 use Rattle.eden_fuse_format.specs.declared.structs.ReadIn.{ReadIn}
@@ -49,7 +48,7 @@ use Rattle.eden_fuse_shown.specs.Opens.{Table as Opens}
 use Rattle.eden_fuse_shown.specs.Opens.{IsSame as IsSameOpens}
 use Rattle.eden_fuse_shown.specs.Reading.{Gathers}
 use Rattle.eden_fuse_shown.specs.Running.{Replying, Syncing, Comes}
-use Rattle.eden_fuse_shown.specs.Waiting.{Extent, Adds, Bridges, Ends, extent_of, seen_length, seen_part, gap_of, may_wait}
+use Rattle.eden_fuse_shown.specs.Waiting.{Extent, Adds, Bridges, Ends, extent_of, seen_part, gap_of, may_wait}
 use Rattle.eden_fuse_shown.specs.Waiting.{Table as Waits}
 
 -- a mounted folder: the mount, how it is shown, the nodes that the kernel was told of, the directories and files that are open,
@@ -196,10 +195,6 @@ Leaves (Some errno) node old new = new ≡ old
 
 -- ---- what is answered once it is known what a message came to
 
--- a node that was found or made, as it is seen with what waits for it
-abbrev pub entry_at : Manner → Waits → Kind → ℕ → ℕ → ℕ → Moments → EntryOut
-entry_at m waits kind size inode id at = entry_of m id inode at kind (seen_length (extent_of waits id) size)
-
 -- of the bytes that the mount told of a node, for which that waits
 abbrev pub seen_bytes : Asked → Option Extent → List ℕ → List ℕ
 seen_bytes (asked.Read s) waiting bytes = seen_part waiting s.offset s.size bytes
@@ -217,13 +212,13 @@ module _ (m : Manner) (node : ℕ) (a : Asked) (last : Option Name) (nodes nodes
   Concludes (Ok outcome.Done) t = Changes node a nodes nodes' × Shuts a pages pages' × IsSameOpens opens opens' × (t ≡ say answer.Done)
   Concludes (Ok outcome.Absent) t = Stay × (t ≡ say (answer.NoEntry m.keep))
   Concludes (Ok (outcome.Found kind size inode)) t =
-      Enters (named node a) (λ id at. answer.Entry (entry_at m waits kind size inode id at)) nodes nodes' t
+      Enters (named node a) (λ id at. answer.Entry (entry_of m waits id inode at kind size)) nodes nodes' t
       × IsSamePages pages pages' × IsSameOpens opens opens'
   Concludes (Ok (outcome.Attributes kind size inode)) t =
-      Stay × ((at : Moments) × (t ≡ say (answer.Attributes (attributes_of m inode at kind (seen_length (extent_of waits node) size)))))
+      Stay × ((at : Moments) × (t ≡ say (answer.Attributes (attributes_of m waits node inode at kind size))))
   Concludes (Ok outcome.Opened) t = IsSameNodes nodes nodes' × IsOpened node a pages pages' opens opens' t
   Concludes (Ok (outcome.Made kind size inode)) t =
-      EntersOpen (named node a) (λ id at. answer.Created (entry_at m waits kind size inode id at) (open_file (flags_of a))) nodes nodes' opens opens' t
+      EntersOpen (named node a) (λ id at. answer.Created (entry_of m waits id inode at kind size) (open_file (flags_of a))) nodes nodes' opens opens' t
       × IsSamePages pages pages'
   Concludes (Ok (outcome.Bytes bytes)) t = Stay × ((t ≡ give (seen_bytes a (extent_of waits node) bytes)) ⊎ (t ≡ refuse 12))
   Concludes (Ok (outcome.Written n)) t = Stay × (t ≡ count n)

@@ -5,13 +5,17 @@ ghost use Rattle.eden_fuse_shown.specs.Attributes.{
   attr_of,
   blocks_of,
   entry_of,
+  kept_for,
   mode_of,
   open_directory,
   open_file,
+  seen_attr,
   start_of,
   started,
 };
+ghost use Rattle.eden_fuse_shown.specs.Waiting.{extent_of};
 
+use crate::extents::Extents;
 use crate::manner::Manner;
 use crate::times::Moments;
 use eden_fuse_format::{Answer, Attr, AttrOut, EntryOut, InitIn, InitOut, OpenOut};
@@ -47,6 +51,16 @@ fn blocks_of(size: u64) -> u64
     }
 }
 
+/// For how many seconds a node's attributes are kept: a length that may be dropped yet is asked for each time.
+fn kept_for(manner: Manner, waits: &Extents, node: u64) -> u64
+    ensures { result ≡ kept_for manner (extent_of waits.now node) }
+{
+    match waits.get(node) {
+        None => manner.keep,
+        Some(_) => 0,
+    }
+}
+
 fn attr_of(owner: Owner, inode: u64, at: Moments, kind: Kind, size: u64) -> Attr
     ensures { result ≡ attr_of owner inode at kind size }
 {
@@ -65,38 +79,57 @@ fn attr_of(owner: Owner, inode: u64, at: Moments, kind: Kind, size: u64) -> Attr
     }
 }
 
-/// A node that was found.
+/// A node's attributes with what waits for its file, of which a mount tells that it is so long.
+fn seen_attr(
+    manner: Manner,
+    waits: &Extents,
+    node: u64,
+    inode: u64,
+    at: Moments,
+    kind: Kind,
+    size: u64,
+) -> Attr
+    ensures { result ≡ seen_attr manner waits.now node inode at kind size }
+{
+    let seen = waits.seen_length(node, size);
+    attr_of(manner.owner, inode, at, kind, seen)
+}
+
+/// A node that was found or made, of whose file a mount tells that it is so long.
 pub(crate) fn entry_of(
     manner: Manner,
+    waits: &Extents,
     node: u64,
     inode: u64,
     at: Moments,
     kind: Kind,
     size: u64,
 ) -> EntryOut
-    ensures { result ≡ entry_of manner node inode at kind size }
+    ensures { result ≡ entry_of manner waits.now node inode at kind size }
 {
     EntryOut {
         nodeid: node,
         entry_valid: manner.keep,
-        attr_valid: manner.keep,
-        attr: attr_of(manner.owner, inode, at, kind, size),
+        attr_valid: kept_for(manner, waits, node),
+        attr: seen_attr(manner, waits, node, inode, at, kind, size),
     }
 }
 
-/// Its attributes.
+/// A node's attributes, of whose file a mount tells that it is so long.
 pub(crate) fn attributes_of(
     manner: Manner,
+    waits: &Extents,
+    node: u64,
     inode: u64,
     at: Moments,
     kind: Kind,
     size: u64,
 ) -> AttrOut
-    ensures { result ≡ attributes_of manner inode at kind size }
+    ensures { result ≡ attributes_of manner waits.now node inode at kind size }
 {
     AttrOut {
-        attr_valid: manner.keep,
-        attr: attr_of(manner.owner, inode, at, kind, size),
+        attr_valid: kept_for(manner, waits, node),
+        attr: seen_attr(manner, waits, node, inode, at, kind, size),
     }
 }
 

@@ -5,7 +5,7 @@ ghost use Rattle.eden_fuse_format.specs.Answers.{IsBrief};
 ghost use Rattle.eden_fuse_format.specs.Asked.{seen};
 ghost use Rattle.eden_fuse_nodes.specs.Tables.{IsSame};
 ghost use Rattle.eden_fuse_session.specs.Turns.{IsBriefly, told};
-ghost use Rattle.eden_fuse_shown.specs.Attributes.{open_file};
+ghost use Rattle.eden_fuse_shown.specs.Attributes.{entry_of, open_file};
 ghost use Rattle.eden_fuse_shown.specs.Naming.{goal_of, named};
 ghost use Rattle.eden_fuse_shown.specs.Opens.{IsSame as AreSame};
 ghost use Rattle.eden_fuse_shown.specs.Showing.{
@@ -17,7 +17,6 @@ ghost use Rattle.eden_fuse_shown.specs.Showing.{
   Lists,
   Shuts,
   count,
-  entry_at,
   errno_of,
   failed,
   flags_of,
@@ -114,7 +113,7 @@ fn found(
     size: u64,
     inode: u64,
 ) -> Answer<'static>
-    ensures enters { Enters place (λ id at. answer.Entry (entry_at manner waits.now kind size inode id at))
+    ensures enters { Enters place (λ id at. answer.Entry (entry_of manner waits.now id inode at kind size))
         nodes.old nodes.new (say result) }
     ensures brief { IsBrief result }
 {
@@ -124,8 +123,7 @@ fn found(
             if let Some(now) = fresh {
                 times.change(id, now);
             }
-            let size = waits.seen_length(id, size);
-            Answer::Entry(entry_of(manner, id, inode, times.of(id, inode), kind, size))
+            Answer::Entry(entry_of(manner, waits, id, inode, times.of(id, inode), kind, size))
         }
     }
 }
@@ -156,7 +154,7 @@ fn made(
     size: u64,
     inode: u64,
 ) -> Answer<'static>
-    ensures enters { EntersOpen place (λ id at. answer.Created (entry_at manner waits.now kind size inode id at)
+    ensures enters { EntersOpen place (λ id at. answer.Created (entry_of manner waits.now id inode at kind size)
         (open_file (flags_of (seen operation.now))))
         nodes.old nodes.new opens.old opens.new (say result) }
     ensures brief { IsBrief result }
@@ -167,9 +165,8 @@ fn made(
             if let Some(now) = fresh(operation, now) {
                 times.change(id, now);
             }
-            let size = waits.seen_length(id, size);
             Answer::Created(
-                entry_of(manner, id, inode, times.of(id, inode), kind, size),
+                entry_of(manner, waits, id, inode, times.of(id, inode), kind, size),
                 open_file(flags_of(operation)),
             )
         }
@@ -391,8 +388,7 @@ pub(crate) fn conclude(
         }
         Ok(Outcome::Attributes(kind, size, inode)) => {
             let moments = times.of(node, inode);
-            let size = waits.seen_length(node, size);
-            let attributes = attributes_of(manner, inode, moments, kind, size);
+            let attributes = attributes_of(manner, waits, node, inode, moments, kind, size);
             Said::Answers(Answer::Attributes(attributes))
         }
         Ok(Outcome::Opened) => Said::Answers(open(alloc, pages, opens, node, operation)),

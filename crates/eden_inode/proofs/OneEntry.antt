@@ -1,5 +1,5 @@
 -- The one entry of a name, as it is stored.
-use Rattle.std.proofs.Common.{◌≡◌, ℕ, true, false, cond, List, [], ◌∷◌, Option, IfSome, Some, None, refl, sym, ap, ◌∙◌, subst}
+use Rattle.std.proofs.Common.{◌≡◌, true, false, cond, List, [], ◌∷◌, Option, IfSome, Some, None, refl, sym, ap, ◌∙◌, subst}
 use Rattle.std.specs.Str.{bytes_eq}
 use Rattle.std.specs.List.{filter_map, cons_option, AllByRecursion}
 use Rattle.std.specs.Option.{option_map, option_and_then}
@@ -8,19 +8,14 @@ use Rattle.eden_model.specs.declared.kind.Origin.{Origin}
 use Rattle.eden_model.specs.declared.kind.Origin.TheVariants as origin
 use Rattle.eden_model.specs.Trees.{Name}
 use Rattle.eden_model.specs.Named.{AreRising, named}
-use Rattle.eden_overlay_format.specs.Changing.{entries_with}
-use Rattle.eden_overlay_format.specs.Directory.{IsStorable, AreStorable}
+use Rattle.eden_overlay_format.specs.Directory.{IsStorable}
 use Rattle.eden_overlay_format.specs.declared.stored_entry.StoredEntry.{StoredEntry}
-use Rattle.eden_overlay.specs.Changing.{MayChange, IsChanged}
-use Rattle.eden_overlay.specs.Files.{Stored}
-use Rattle.eden_overlay.specs.Held.{with_entries}
-use Rattle.eden_overlay.specs.Soundness.{AreSound}
 use Rattle.eden_tree.specs.Directory.{Row, Directory}
 use Rattle.eden_tree.specs.Rows.{find_row}
 use Rattle.eden_tree.proofs.CallerLemmas.{same-≡}
 use Rattle.eden_inode.specs.declared.listing.Listed.{Listed}
 use Rattle.eden_inode.specs.declared.listing.Listed.TheVariants.{Whole, Without, Owned}
-use Rattle.eden_inode.specs.Listed.{DiffersAt, listed_as, origin_as}
+use Rattle.eden_inode.specs.Listed.{listed_as, origin_as}
 use Rattle.eden_inode.proofs.Entries.{entry_as, all_stored}
 
 abbrev entry_named : Name → List StoredEntry → Option StoredEntry
@@ -38,7 +33,7 @@ passed_over n None rest is = refl
 passed_over n (Some v) rest is = ap (λ b. cond b (Some v) (entry_named n rest)) is
 
 -- a row with that origin, as it is stored
-abbrev with_origin : Name → Row → Origin → StoredEntry
+abbrev pub with_origin : Name → Row → Origin → StoredEntry
 with_origin n z o = record { name = n; kind = z.kind; origin = o; number = z.number }
 
 -- an entry has its row's name
@@ -66,14 +61,22 @@ none_of l n z (Some w) h = left_out l n z w h
 one_entry : (l : Listed) (n : Name) (rows : List (Name × Row)) → entry_named n (filter_map (entry_as l) rows) ≡ option_and_then (λ w. entry_as l (n, w)) (find_row n rows)
 one_entry l n [] = refl
 one_entry l n (e ∷ es) =
-    elim (bytes_eq n e.0) as (λ b. bytes_eq n e.0 ≡ b → entry_named n (cons_option (entry_as l e) (filter_map (entry_as l) es)) ≡ option_and_then (λ w. entry_as l (n, w)) (cond b (Some e.1) (find_row n es))) [
+    elim (bytes_eq n e.0) as (λ b. bytes_eq n e.0 ≡ b
+    → entry_named n (cons_option (entry_as l e) (filter_map (entry_as l) es)) ≡ option_and_then (λ w. entry_as l (n, w)) (cond b (Some e.1) (find_row n es))) [
       | true ↦ λ s. (let same : entry_as l e ≡ entry_as l (n, e.1) = ap (λ m. entry_as l (m, e.1)) (sym (same-≡ n e.0 s)) in
           found_first n (entry_as l e) (filter_map (entry_as l) es) (has_name n true l e s) (λ none. one_entry l n es ∙ none_of l n e.1 (find_row n es) (sym same ∙ none)) ∙ same)
       | false ↦ λ s. passed_over n (entry_as l e) (filter_map (entry_as l) es) (has_name n false l e s) ∙ one_entry l n es
     ] refl
 
-pub one_stored_as : (l : Listed) (n : Name) (d : Directory) → AreRising (λ r. r.0) d.rows → entry_named n (listed_as l d) ≡ option_and_then (λ w. entry_as l (n, w)) (find_row n d.rows)
+one_stored_as : (l : Listed) (n : Name) (d : Directory) → AreRising (λ r. r.0) d.rows → entry_named n (listed_as l d) ≡ option_and_then (λ w. entry_as l (n, w)) (find_row n d.rows)
 one_stored_as l n d rising = ap (entry_named n) (sym (all_stored l d rising)) ∙ one_entry l n d.rows
+
+pub none_stored : (l : Listed) (n : Name) (d : Directory) → AreRising (λ r. r.0) d.rows → None ≡ find_row n d.rows → None ≡ entry_named n (listed_as l d)
+none_stored l n d rising absent = sym (one_stored_as l n d rising ∙ ap (option_and_then (λ w. entry_as l (n, w))) (sym absent))
+
+pub stored_so : (l : Listed) (n : Name) (d : Directory) → AreRising (λ r. r.0) d.rows → (x : Row) → Some x ≡ find_row n d.rows → (o : Option Origin) → o ≡ origin_as l n x.origin
+    → option_map (with_origin n x) o ≡ entry_named n (listed_as l d)
+stored_so l n d rising x there o is = ap (option_map (with_origin n x)) is ∙ sym (one_stored_as l n d rising ∙ ap (option_and_then (λ w. entry_as l (n, w))) (sym there))
 
 -- an entry that is found is one of them
 pub one_of : (P : StoredEntry → Type 0) (n : Name) (es : List StoredEntry) (e : StoredEntry) → AllByRecursion P es → entry_named n es ≡ Some e → P e
@@ -88,18 +91,3 @@ pub facts_storable : {T : Type 0} (view : T → StoredEntry) (o : Option T) (n :
     → IfSome o (λ f. IsStorable (view f))
 facts_storable view None n es all h = tt
 facts_storable view (Some f) n es all h = one_of IsStorable n es (view f) all (sym h)
-
--- ---- a file that differs in it alone
-
-module _ (n : Name) (F : Stored) (k : ℕ) (es : List StoredEntry) (o : Option StoredEntry) (facts : o ≡ entry_named n es) (differs : DiffersAt n F k es) where
-  changed_is : entries_with n o differs.0 ≡ es
-  changed_is = ap (λ a. entries_with n a differs.0) facts ∙ differs.2
-
-  pub may_change : AreStorable es → AreSound (with_entries F k es) → MayChange F k n o
-  may_change are sound old holds =
-      let same : old ≡ differs.0 = same_Some old differs.0 (sym holds ∙ differs.1) in
-      let is : entries_with n o old ≡ es = ap (entries_with n o) same ∙ changed_is in
-      record { storable = subst AreStorable (sym is) are; sound = subst (λ (l : List StoredEntry). AreSound (with_entries F k l)) (sym is) sound }
-
-  pub is_changed : (G : Stored) → IsChanged F k n o G → G ≡ with_entries F k es
-  is_changed G changed = changed differs.0 differs.1 ∙ ap (with_entries F k) changed_is

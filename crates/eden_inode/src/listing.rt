@@ -92,8 +92,10 @@ pub fn save<A: Allocator, W: World, F: Files<W>>(
 
 /// What is to be stored of the entry of that name, if anything.
 fn facts_in<A: Allocator>(dir: &Dir<A>, listed: Listed<'_>, name: &Name) -> Option<RowFacts>
-    ensures { option_map (entry_as name.now) result ≡ named (λ e. e.name) name.now (listed_as listed dir.now) }
+    ensures { option_map (entry_as name.now) result ≡ named (λ e. e.name) name.now (listed_as listed.entry dir.now) }
 {
+    // Says to the proof that names rise.
+    let _ = dir.count();
     match dir.get(name) {
         None => None,
         Some(entry) => match origin_in(listed, name, entry.origin) {

@@ -1,5 +1,5 @@
 -- A directory of which one entry changes, as it is stored.
-use Rattle.std.proofs.Common.{◌≡◌, ℕ, true, false, cond, if◌then◌else◌, List, [], ◌∷◌, map, Option, IfSome, Some, None, refl, sym, ap, ◌∙◌, subst}
+use Rattle.std.proofs.Common.{◌≡◌, true, false, cond, List, [], ◌∷◌, map, Option, IfSome, Some, None, refl, sym, ap, ◌∙◌, subst}
 use Rattle.std.specs.declared.cmp.Ordering.TheVariants.{Less}
 use Rattle.std.specs.Ordering.{is_lt}
 use Rattle.std.specs.Str.{bytes_eq}
@@ -7,7 +7,7 @@ use Rattle.std.specs.List.{AllByRecursion}
 use Rattle.std.specs.Cmp.Lexicographic.{nat_list_cmp_total}
 use Rattle.std.specs.Map.{keys_of}
 use Rattle.std.specs.Option.{option_map}
-use Rattle.std.proofs.lemmas.Option.{none-some, same_Some}
+use Rattle.std.proofs.lemmas.Option.{none-some}
 use Rattle.eden_model.specs.declared.kind.Origin.{Origin}
 use Rattle.eden_model.specs.declared.kind.Origin.TheVariants as origin
 use Rattle.eden_model.specs.Named.{AreRising, named}
@@ -19,7 +19,7 @@ use Rattle.eden_overlay_format.specs.Directory.{is_own}
 use Rattle.eden_overlay_format.specs.declared.stored_entry.StoredEntry.{StoredEntry}
 use Rattle.eden_overlay.specs.Files.{Stored}
 use Rattle.eden_overlay.specs.Held.{HoldsEntries}
-use Rattle.eden_tree.specs.Directory.{Row, Directory, child_of}
+use Rattle.eden_tree.specs.Directory.{Row, Directory}
 use Rattle.eden_tree.specs.Rows.{find_row, put_row, drop_row, set_row}
 use Rattle.eden_tree.proofs.CallerLemmas.{order, same-≡, same-refl, same-less, lt-less, lt-≡, beyond, same-sym, IsBelow, first_below, others, drop_row-absent, find_row-put_row, find_row-set_row}
 use Rattle.eden_coupling.specs.Changing.{changed, placed, rows_with, with_listing}

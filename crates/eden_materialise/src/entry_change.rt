@@ -45,8 +45,15 @@ pub(crate) fn take_out<A: Allocator, W: World, F: Files<W>>(
     ensures strays { W.honest → OnErr result (Refused (F.stored overlay.old) root.old path.now (F.stored overlay.new)) }
     ensures counted { Counted (result ≡ Err files.Device) (F.failures overlay.old) (F.failures overlay.new) }
 {
-    let differing = differing(root, path, name);
-    store_chain(alloc, root, overlay, path, Some(Listed::Without(name)), differing)?;
+    let changed = differing(root, path, name);
+    store_chain(
+        alloc,
+        root,
+        overlay,
+        path,
+        Some(Listed::Without(name)),
+        changed,
+    )?;
     remove_at(root, path, name);
     mark_own(root, path);
     Ok(())
@@ -74,12 +81,12 @@ pub(crate) fn put_in<A: Allocator, W: World, F: Files<W>>(
     ensures strays { W.honest → OnErr result (Refused (F.stored overlay.old) root.old path.now (F.stored overlay.new)) }
     ensures counted { Counted (result ≡ Err files.Device) (F.failures overlay.old) (F.failures overlay.new) }
 {
-    let differing = differing(root, path, name);
+    let changed = differing(root, path, name);
     let was = match put_at(alloc, root, path, name, entry) {
         Ok(was) => was,
         Err(_) => return Err(FilesFault::Memory),
     };
-    match store_chain(alloc, root, overlay, path, Some(Listed::Whole), differing) {
+    match store_chain(alloc, root, overlay, path, Some(Listed::Whole), changed) {
         Ok(()) => {
             mark_own(root, path);
             return Ok(());

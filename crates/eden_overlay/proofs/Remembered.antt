@@ -9,22 +9,22 @@ use Rattle.eden_overlay_format.specs.declared.stored_entry.StoredEntry.{StoredEn
 use Rattle.eden_overlay_format.specs.Changing.{entries_with}
 use Rattle.eden_overlay_format.specs.Values.{entries_in}
 use Rattle.eden_overlay.specs.declared.files.FilesFault.{FilesFault}
-use Rattle.eden_overlay.specs.declared.listed.KeptBody.{KeptBody}
+use Rattle.eden_overlay.specs.declared.last_body.KeptBody.{KeptBody}
 use Rattle.eden_overlay.specs.Files.{Stored, put}
 use Rattle.eden_overlay.specs.Held.{HoldsEntries}
-use Rattle.eden_overlay.specs.Keeping.{IsKeptLong, IsListed, listed_but, listed_of}
+use Rattle.eden_overlay.specs.Keeping.{IsKeptLong, IsBodyKept, kept_but, kept_entries}
 use Rattle.eden_overlay.proofs.Puts.{put_apart}
 
-pub none_listed : (F : Stored) → IsListed F None
-unfolding IsListed
-none_listed F = tt
+pub no_body : (F : Stored) → IsBodyKept F None
+unfolding IsBodyKept
+no_body F = tt
 
 -- what is kept of another directory, where at most that file changed
-others_listed : (F G : Stored) (n : ℕ) → ((q : ℕ) → n ≢ q → G q ≡ F q) → (o : Option KeptBody) → IsListed F o → IsListed G (listed_but n o)
-unfolding IsListed
-others_listed F G n apart None held = tt
-others_listed F G n apart (Some k) held =
-    elim (k.number == n) as (λ b. (k.number == n) ≡ b → IsListed G (cond b None (Some k))) [
+others_body : (F G : Stored) (n : ℕ) → ((q : ℕ) → n ≢ q → G q ≡ F q) → (o : Option KeptBody) → IsBodyKept F o → IsBodyKept G (kept_but n o)
+unfolding IsBodyKept
+others_body F G n apart None held = tt
+others_body F G n apart (Some k) held =
+    elim (k.number == n) as (λ b. (k.number == n) ≡ b → IsBodyKept G (cond b None (Some k))) [
       | true ↦ λ is. tt
       | false ↦ λ isnt.
           (let same : G k.number ≡ F k.number = apart k.number (λ e. eqb-false k.number n isnt (sym e)) in
@@ -32,24 +32,24 @@ others_listed F G n apart (Some k) held =
     ] refl
 
 -- a store of that file, or one that failed
-pub listed_beside : (F G : Stored) (n : ℕ) (w : Option (List ℕ)) (o left : Option KeptBody) → IsListed F o → left ≡ listed_but n o
-    → (result : Result (Unit {0}) FilesFault) → OnOk result (G ≡ put F n w) → OnErr result (G ≡ F) → IsListed G left
-listed_beside F G n w o left held is (Ok u) ok err =
-    subst (IsListed G) (sym is) (others_listed F G n (λ q ne. ap (λ f. f q) ok ∙ put_apart F n q w ne) o held)
-listed_beside F G n w o left held is (Err e) ok err = subst (IsListed G) (sym is) (others_listed F G n (λ q ne. ap (λ f. f q) err) o held)
+pub body_beside : (F G : Stored) (n : ℕ) (w : Option (List ℕ)) (o left : Option KeptBody) → IsBodyKept F o → left ≡ kept_but n o
+    → (result : Result (Unit {0}) FilesFault) → OnOk result (G ≡ put F n w) → OnErr result (G ≡ F) → IsBodyKept G left
+body_beside F G n w o left held is (Ok u) ok err =
+    subst (IsBodyKept G) (sym is) (others_body F G n (λ q ne. ap (λ f. f q) ok ∙ put_apart F n q w ne) o held)
+body_beside F G n w o left held is (Err e) ok err = subst (IsBodyKept G) (sym is) (others_body F G n (λ q ne. ap (λ f. f q) err) o held)
 
 -- .. where no file changed
-pub listed_others : (F G : Stored) (n : ℕ) (o left : Option KeptBody) → IsListed F o → left ≡ listed_but n o → G ≡ F → IsListed G left
-listed_others F G n o left held is same = subst (IsListed G) (sym is) (others_listed F G n (λ q ne. ap (λ f. f q) same) o held)
+pub body_others : (F G : Stored) (n : ℕ) (o left : Option KeptBody) → IsBodyKept F o → left ≡ kept_but n o → G ≡ F → IsBodyKept G left
+body_others F G n o left held is same = subst (IsBodyKept G) (sym is) (others_body F G n (λ q ne. ap (λ f. f q) same) o held)
 
-pub listed_still : (F G : Stored) (o left : Option KeptBody) → IsListed F o → left ≡ o → G ≡ F → IsListed G left
-listed_still F G o left held is same = subst (IsListed G) (sym is) (subst (λ X. IsListed X o) (sym same) held)
+pub body_still : (F G : Stored) (o left : Option KeptBody) → IsBodyKept F o → left ≡ o → G ≡ F → IsBodyKept G left
+body_still F G o left held is same = subst (IsBodyKept G) (sym is) (subst (λ X. IsBodyKept X o) (sym same) held)
 
 -- the entries that are kept are held
-pub listed_held : (F : Stored) (n : ℕ) (es : List StoredEntry) (o : Option KeptBody) → IsListed F o → listed_of n o ≡ Some es → HoldsEntries F n es
-unfolding IsListed
-listed_held F n es None held found = absurd cc
-listed_held F n es (Some k) held found =
+pub body_held : (F : Stored) (n : ℕ) (es : List StoredEntry) (o : Option KeptBody) → IsBodyKept F o → kept_entries n o ≡ Some es → HoldsEntries F n es
+unfolding IsBodyKept
+body_held F n es None held found = absurd cc
+body_held F n es (Some k) held found =
     elim (k.number == n) as (λ b. (k.number == n) ≡ b → cond b (Some k.body) None ≡ Some es → HoldsEntries F n es) [
       | true ↦ λ is found. (let e : k.body ≡ es = cc in
           subst (HoldsEntries F n) e (subst (λ m. HoldsEntries F m k.body) (eqb-true k.number n is) held))
@@ -59,28 +59,28 @@ listed_held F n es (Some k) held found =
 -- a body is one that is kept, or not
 kept_or_not : (long : ℕ) → IsKeptLong long ⊎ ¬ IsKeptLong long
 kept_or_not long =
-    elim (nat_lt long (2 ^ 10)) as (λ b. nat_lt long (2 ^ 10) ≡ b → IsKeptLong long ⊎ ¬ IsKeptLong long) [
-      | true ↦ λ short. inr (λ is. (let less = ltb-true long (2 ^ 10) short in let least = is.0 in omega (arith, less, least)))
+    elim (nat_lt long (2 ^ 8)) as (λ b. nat_lt long (2 ^ 8) ≡ b → IsKeptLong long ⊎ ¬ IsKeptLong long) [
+      | true ↦ λ short. inr (λ is. (let less = ltb-true long (2 ^ 8) short in let least = is.0 in omega (arith, less, least)))
       | false ↦ λ fits.
           elim (nat_lt (2 ^ 22) long) as (λ b. nat_lt (2 ^ 22) long ≡ b → IsKeptLong long ⊎ ¬ IsKeptLong long) [
             | true ↦ λ beyond. inr (λ is. (let more = ltb-true (2 ^ 22) long beyond in let most = is.1 in omega (arith, more, most)))
-            | false ↦ λ within. inl (ltb-false long (2 ^ 10) fits, ltb-false (2 ^ 22) long within)
+            | false ↦ λ within. inl (ltb-false long (2 ^ 8) fits, ltb-false (2 ^ 22) long within)
           ] refl
     ] refl
 
 -- with the body that was stored, if it is kept
-pub listed_with : (F G : Stored) (n long : ℕ) (w : Option (List ℕ)) (es : List StoredEntry) (o left : Option KeptBody) → IsListed F o → HoldsEntries G n es → G ≡ put F n w
-    → (IsKeptLong long → left ≡ Some (record { number = n; body = es })) → (¬ IsKeptLong long → left ≡ listed_but n o) → IsListed G left
-unfolding IsListed
-listed_with F G n long w es o left held there ok kept other = elim (kept_or_not long) [
-  | inl is ↦ subst (IsListed G) (sym (kept is)) there
-  | inr isnt ↦ subst (IsListed G) (sym (other isnt)) (others_listed F G n (λ q ne. ap (λ f. f q) ok ∙ put_apart F n q w ne) o held)
+pub body_with : (F G : Stored) (n long : ℕ) (w : Option (List ℕ)) (es : List StoredEntry) (o left : Option KeptBody) → IsBodyKept F o → HoldsEntries G n es → G ≡ put F n w
+    → (IsKeptLong long → left ≡ Some (record { number = n; body = es })) → (¬ IsKeptLong long → left ≡ kept_but n o) → IsBodyKept G left
+unfolding IsBodyKept
+body_with F G n long w es o left held there ok kept other = elim (kept_or_not long) [
+  | inl is ↦ subst (IsBodyKept G) (sym (kept is)) there
+  | inr isnt ↦ subst (IsBodyKept G) (sym (other isnt)) (others_body F G n (λ q ne. ap (λ f. f q) ok ∙ put_apart F n q w ne) o held)
 ]
 
 -- what is made of a body that is kept is made of the entries that are held
-pub changed_from : (F : Stored) (k : ℕ) (n : Name) (o : Option StoredEntry) (body : List StoredEntry) (kept : Option KeptBody) (made : Option (List StoredEntry)) → IsListed F kept
-    → made ≡ option_map (entries_with n o) (listed_of k kept) → made ≡ Some body → (es : List StoredEntry) × (HoldsEntries F k es × (body ≡ entries_with n o es))
-changed_from F k n o body kept made held is some = of (listed_of k kept) refl (sym is ∙ some) where
-  of : (l : Option (List StoredEntry)) → listed_of k kept ≡ l → option_map (entries_with n o) l ≡ Some body → (es : List StoredEntry) × (HoldsEntries F k es × (body ≡ entries_with n o es))
+pub changed_from : (F : Stored) (k : ℕ) (n : Name) (o : Option StoredEntry) (body : List StoredEntry) (kept : Option KeptBody) (made : Option (List StoredEntry)) → IsBodyKept F kept
+    → made ≡ option_map (entries_with n o) (kept_entries k kept) → made ≡ Some body → (es : List StoredEntry) × (HoldsEntries F k es × (body ≡ entries_with n o es))
+changed_from F k n o body kept made held is some = of (kept_entries k kept) refl (sym is ∙ some) where
+  of : (l : Option (List StoredEntry)) → kept_entries k kept ≡ l → option_map (entries_with n o) l ≡ Some body → (es : List StoredEntry) × (HoldsEntries F k es × (body ≡ entries_with n o es))
   of None at found = absurd (none-some body found)
-  of (Some es) at found = (es, (listed_held F k es kept held at, sym (same_Some (entries_with n o es) body found)))
+  of (Some es) at found = (es, (body_held F k es kept held at, sym (same_Some (entries_with n o es) body found)))

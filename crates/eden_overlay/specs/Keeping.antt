@@ -3,7 +3,7 @@ use Rattle.std.specs.Prelude.{ℕ, ◌≡◌, ◌≤◌, ◌<◌, ◌==◌, ◌+
 use Rattle.std.specs.Prelude.{Option, Some, None, option_map, IsSome, if◌then◌else◌}
 use Rattle.std.specs.List.{list_any}
 use Rattle.eden_overlay_format.specs.declared.stored_entry.StoredEntry.{StoredEntry}
-use Rattle.eden_overlay.specs.declared.listed.KeptBody.{KeptBody}
+use Rattle.eden_overlay.specs.declared.last_body.KeptBody.{KeptBody}
 use Rattle.eden_overlay.specs.declared.recent.Kept.{Kept}
 use Rattle.eden_overlay.specs.Files.{Stored}
 use Rattle.eden_overlay.specs.Held.{HoldsContent, HoldsEntries, content_at}
@@ -80,20 +80,20 @@ AreKnownOf F kept numbers = AreKeptOf F kept × AreWhole F numbers
 -- ---- the directory whose body is kept
 
 -- its entries are those that its file holds
-unfoldable pub IsListed : Stored → Option KeptBody → Type 0
-IsListed F None = Unit {0}
-IsListed F (Some k) = HoldsEntries F k.number k.body
+unfoldable pub IsBodyKept : Stored → Option KeptBody → Type 0
+IsBodyKept F None = Unit {0}
+IsBodyKept F (Some k) = HoldsEntries F k.number k.body
 
 -- the entries of that directory, if its body is kept
-abbrev pub listed_of : ℕ → Option KeptBody → Option (List StoredEntry)
-listed_of number None = None
-listed_of number (Some k) = if k.number == number then Some k.body else None
+abbrev pub kept_entries : ℕ → Option KeptBody → Option (List StoredEntry)
+kept_entries number None = None
+kept_entries number (Some k) = if k.number == number then Some k.body else None
 
 -- what is kept of another
-abbrev pub listed_but : ℕ → Option KeptBody → Option KeptBody
-listed_but number None = None
-listed_but number (Some k) = if k.number == number then None else Some k
+abbrev pub kept_but : ℕ → Option KeptBody → Option KeptBody
+kept_but number None = None
+kept_but number (Some k) = if k.number == number then None else Some k
 
--- a body of so many bytes is kept: from 1 KiB to 4 MiB
+-- a body of so many bytes is kept: from 256 bytes to 4 MiB
 abbrev pub IsKeptLong : ℕ → Type 0
-IsKeptLong long = (2 ^ 10 ≤ long) × (long ≤ 2 ^ 22)
+IsKeptLong long = (2 ^ 8 ≤ long) × (long ≤ 2 ^ 22)

@@ -22,7 +22,7 @@ ghost use Rattle.eden_overlay.specs.Getting.{Explains, ExplainsLength, ExplainsN
 ghost use Rattle.std.specs.Option.{is_some, option_map};
 ghost use Rattle.eden_overlay_format.specs.Numbers.{none_is_own};
 ghost use Rattle.eden_overlay.specs.Changing.{HasEntries, IsChanged, MayChange};
-ghost use Rattle.eden_overlay.specs.Keeping.{AreKnownOf, IsListed};
+ghost use Rattle.eden_overlay.specs.Keeping.{AreKnownOf, IsBodyKept};
 ghost use Rattle.eden_overlay.specs.Files.{part};
 ghost use Rattle.eden_overlay.specs.declared.files.FilesFault.TheVariants as files;
 ghost use Rattle.eden_overlay.specs.declared.fault.GetFault.TheVariants as get;
@@ -30,7 +30,7 @@ ghost use Rattle.eden_overlay.specs.declared.fault.GetFault.TheVariants as get;
 use crate::content::Content;
 use crate::fault::GetFault;
 use crate::files::{Files, FilesFault};
-use crate::listed::Listed;
+use crate::last_body::LastBody;
 use crate::part::part_of;
 use crate::recent::Recent;
 use eden_model::{Id, Name, Obstacle, World};
@@ -62,9 +62,10 @@ const LARGE: usize = 1 << 20;
 /// that its file holds a content is known then, so that its parts are read there. Under an honest outside each content
 /// is what its file holds.
 ///
-/// The body of the directory that was stored last stays in memory too, if it has from 1 KiB to 4 MiB, so that
-/// `change_entry` needn't write its other entries anew. A shorter one isn't kept, and another directory's stays then.
-/// It goes once something else is stored as its file. Under an honest outside its entries are what its file holds.
+/// The body of the directory that was stored last stays in memory too, if it has from 256 bytes to 4 MiB, in room of up
+/// to twice that, so that `change_entry` needn't write its other entries anew. A shorter one isn't kept, and another
+/// directory's stays then. It goes once something else is stored as its file. Under an honest outside its entries are
+/// what its file holds.
 ///
 /// The room that a file was written in stays too, at most 1 MiB of it for contents and 4 MiB for directories: a store
 /// that needs no more takes no memory for its file.
@@ -72,7 +73,7 @@ const LARGE: usize = 1 << 20;
 pub struct Overlay<W: World, F: Files<W>> {
     files: F,
     recent: Recent,
-    listed: Listed,
+    last: LastBody,
     world: PhantomData<W>,
 }
 
@@ -82,7 +83,7 @@ impl<W: World, F: Files<W>> Model for Overlay<W, F> {
     ghost view = { λ o. o.files };
 
     ghost invariant = { λ o. W.honest → AreKnownOf (F.stored o.files) o.recent.kept.items o.recent.whole.items
-        × IsListed (F.stored o.files) o.listed.kept };
+        × IsBodyKept (F.stored o.files) o.last.kept };
 }
 
 impl<W: World, F: Files<W>> Overlay<W, F> {
@@ -93,7 +94,7 @@ impl<W: World, F: Files<W>> Overlay<W, F> {
         Overlay {
             files,
             recent: Recent::new(alloc, 0),
-            listed: Listed::new(),
+            last: LastBody::new(),
             world: PhantomData,
         }
     }
@@ -146,7 +147,7 @@ impl<W: World, F: Files<W>> Overlay<W, F> {
                 return self.put_long(alloc, number, bytes);
             }
         }
-        self.listed.unlist(number);
+        self.last.release(number);
         // First, so that memory never holds what is kept of the file beside the new one.
         let room = self.recent.room(alloc, number);
         let stored = Content::of_unsealed(encode_unsealed_in(room, content)?);
@@ -167,7 +168,7 @@ impl<W: World, F: Files<W>> Overlay<W, F> {
         ensures counted { Counted (result ≡ Err files.Device) (F.failures self.old) (F.failures self.new) }
     {
         self.recent.forget(number);
-        self.listed.unlist(number);
+        self.last.release(number);
         self.files
             .replace_body(alloc, number, Identifier::File, content)?;
         self.recent.note_whole(number);
@@ -188,7 +189,7 @@ impl<W: World, F: Files<W>> Overlay<W, F> {
         ensures err { W.honest → OnErr result (F.stored self.new ≡ F.stored self.old) }
         ensures counted { Counted (result ≡ Err files.Device) (F.failures self.old) (F.failures self.new) }
     {
-        let listing = Listing::of(self.listed.room(alloc), entries)?;
+        let listing = Listing::of(self.last.room(alloc), entries)?;
         self.put_listing(alloc, number, listing)
     }
 
@@ -196,7 +197,7 @@ impl<W: World, F: Files<W>> Overlay<W, F> {
     pub fn room(&mut self, alloc: Global) -> Vec<u8>
         ensures { self.new ≡ self.old }
     {
-        self.listed.room(alloc)
+        self.last.room(alloc)
     }
 
     /// Stores a directory, whose entries are written already, as the file of that number, in place of any that was
@@ -234,7 +235,7 @@ impl<W: World, F: Files<W>> Overlay<W, F> {
         ensures kept { W.honest → result ≢ Ok true → F.stored self.new ≡ F.stored self.old }
         ensures counted { Counted (result ≡ Err files.Device) (F.failures self.old) (F.failures self.new) }
     {
-        let Some(body) = self.listed.changed(alloc, number, name, facts)? else {
+        let Some(body) = self.last.changed(alloc, number, name, facts)? else {
             return Ok(false);
         };
         self.put_body(alloc, number, body)?;
@@ -260,11 +261,11 @@ impl<W: World, F: Files<W>> Overlay<W, F> {
             .replace_body(alloc, number, Identifier::Directory, body.bytes());
         match answer {
             Ok(()) => {
-                self.listed.keep(number, body);
+                self.last.keep(number, body);
                 Ok(())
             }
             Err(fault) => {
-                self.listed.spare(body);
+                self.last.spare(body);
                 Err(fault)
             }
         }
@@ -432,10 +433,10 @@ impl<W: World, F: Files<W>> Overlay<W, F> {
         ensures counted { Counted (result ≡ Err files.Device) (F.failures self.old) (F.failures self.new) }
     {
         self.recent.forget(number);
-        self.listed.unlist(number);
+        self.last.release(number);
         let bytes = listing.into_numbers(tree)?;
         let answer = self.files.replace(alloc, number, &bytes);
-        self.listed.room.keep(bytes);
+        self.last.room.keep(bytes);
         answer
     }
 
@@ -480,7 +481,7 @@ impl<W: World, F: Files<W>> Overlay<W, F> {
         ensures counted { Counted (result ≡ Err files.Device) (F.failures self.old) (F.failures self.new) }
     {
         self.recent.forget(number);
-        self.listed.unlist(number);
+        self.last.release(number);
         self.files.remove(number)
     }
 
@@ -494,7 +495,7 @@ impl<W: World, F: Files<W>> Overlay<W, F> {
         ensures counted { Counted (result ≡ Err files.Device) (F.failures self.old) (F.failures self.new) }
     {
         self.recent.forget(STATE_NUMBER);
-        self.listed.unlist(STATE_NUMBER);
+        self.last.release(STATE_NUMBER);
         let bytes = encode_state(alloc, state)?;
         self.files.replace(alloc, STATE_NUMBER, &bytes)
     }
@@ -522,7 +523,7 @@ impl<W: World, F: Files<W>> Overlay<W, F> {
         ensures counted { Counted (result ≡ Err files.Device) (F.failures self.old) (F.failures self.new) }
     {
         self.recent.forget(STATE_NUMBER);
-        self.listed.unlist(STATE_NUMBER);
+        self.last.release(STATE_NUMBER);
         self.files.remove(STATE_NUMBER)
     }
 

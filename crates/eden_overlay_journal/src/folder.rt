@@ -55,6 +55,25 @@ struct Piece {
     told: Told,
 }
 
+impl Piece {
+    // How much room its numbered file will take, with the header that a directory's has before its body.
+    fn poured_len(&self) -> u64 {
+        let len = match self.told {
+            Told::File => self.len,
+            Told::Body { len, .. } => len,
+        };
+        blocks_of((len as u64).saturating_add(HEADER_LEN as u64))
+    }
+}
+
+/// When a file's turn comes as the journal is emptied.
+#[derive(Clone, Copy, PartialEq, Eq)]
+enum Turn {
+    Removed,
+    Shorter,
+    Other,
+}
+
 /// A journal that is the file `journal` in an overlay's folder. It is made when something is noted first, and removed
 /// when it is emptied.
 #[derive(Drop)]
@@ -341,25 +360,30 @@ impl<R: Files + Clock + Drop> FolderJournal<R> {
         }
     }
 
+    // How many bytes the numbered file has; none where there is none, or that can't be known.
+    fn file_len(&self, number: u64) -> Option<u64> {
+        let mut name = Buffer::new();
+        let path = self.folder.join(self.alloc, name.format(number)).ok()?;
+        let found = fs::symlink_metadata(self.log.files(), path.as_path()).ok()?;
+        Some(found.len())
+    }
+
     // Whether there is a numbered file; no where that can't be known.
     fn has_file(&self, number: u64) -> bool {
-        let mut name = Buffer::new();
-        match self.folder.join(self.alloc, name.format(number)) {
-            Ok(path) => fs::symlink_metadata(self.log.files(), path.as_path()).is_ok(),
-            Err(_) => false,
-        }
+        self.file_len(number).is_some()
+    }
+
+    // How much room the numbered file takes.
+    fn numbered_room(&self, number: u64) -> u64 {
+        self.file_len(number).map_or(0, blocks_of)
     }
 
     // How much room the files that it says are there take, as numbered files, with a block for their names.
-    fn poured_len(&self) -> u64 {
+    fn all_poured_len(&self) -> u64 {
         let mut all = BLOCK_LEN;
         for (_, piece) in self.pieces.iter() {
-            if let Some(Piece { len, told, .. }) = piece {
-                let len = match told {
-                    Told::File => *len,
-                    Told::Body { len, .. } => *len,
-                };
-                all = all.saturating_add(numbered_len(len));
+            if let Some(piece) = piece {
+                all = all.saturating_add(piece.poured_len());
             }
         }
         all
@@ -368,7 +392,82 @@ impl<R: Files + Clock + Drop> FolderJournal<R> {
     // Whether all that it says finds room in the reserve.
     fn fits_in_reserve(&self) -> bool {
         let reserve = self.log.reserve();
-        reserve > 0 && self.poured_len() <= reserve
+        reserve > 0 && self.all_poured_len() <= reserve
+    }
+
+    // Whether it finds room there on a full disk if its files are stored in that order: each that is stored or removed
+    // gives back what its numbered file took.
+    fn fits_in_turn(&self, numbers: &[u64]) -> bool {
+        if !self.log.is_short() {
+            return false;
+        }
+        let mut free = self.log.reserve().saturating_sub(BLOCK_LEN);
+        for number in numbers {
+            if let Some(Some(piece)) = self.pieces.get(number) {
+                match free.checked_sub(piece.poured_len()) {
+                    Some(rest) => free = rest,
+                    None => return false,
+                }
+            }
+            free = free.saturating_add(self.numbered_room(*number));
+        }
+        true
+    }
+
+    // When a file's turn comes as the journal is emptied. What was removed comes first, and then what was made shorter,
+    // since both make room on the disk; that is looked for on a disk without room alone.
+    fn turn_of(&self, number: u64, piece: Option<Piece>) -> Turn {
+        match piece {
+            None => Turn::Removed,
+            Some(piece) => {
+                if self.log.is_short() && piece.poured_len() < self.numbered_room(number) {
+                    Turn::Shorter
+                } else {
+                    Turn::Other
+                }
+            }
+        }
+    }
+
+    // All numbers in that order: each stands in it once, whatever a look at the disk answers.
+    fn in_turn(&self, alloc: Global) -> Result<Vec<u64>, AllocError> {
+        let mut numbers = Vec::with_capacity(alloc, self.pieces.len())?;
+        let (mut shorter, mut others) = (Vec::new(alloc), Vec::new(alloc));
+        for (number, piece) in self.pieces.iter() {
+            match self.turn_of(*number, *piece) {
+                Turn::Removed => numbers.push(*number)?,
+                Turn::Shorter => shorter.push(*number)?,
+                Turn::Other => others.push(*number)?,
+            }
+        }
+        numbers.extend_from_slice(&shorter)?;
+        numbers.extend_from_slice(&others)?;
+        Ok(numbers)
+    }
+
+    // How much room the file takes as it was said last, or else its numbered file.
+    fn room_of(&self, number: u64) -> u64 {
+        match self.pieces.get(&number) {
+            Some(Some(piece)) => piece.poured_len(),
+            Some(None) => 0,
+            None => self.numbered_room(number),
+        }
+    }
+
+    // Notes the record in the room, which tells that of a file. On a full disk a record of less than a block finds its
+    // room in the reserve, as a removal's does, if the file takes more as it is.
+    fn put_file_record(&mut self, number: u64, when: u64) -> Result<(), FilesFault> {
+        match self.put_record(number, when, Told::File, Room::Disk) {
+            Ok(()) => Ok(()),
+            Err(fault) => {
+                let len = self.room.len() as u64;
+                if len <= BLOCK_LEN && blocks_of(len) < self.room_of(number) {
+                    self.put_record(number, when, Told::File, Room::Reserve)
+                } else {
+                    Err(fault)
+                }
+            }
+        }
     }
 
     // Notes the record in the room, which tells that of the file.
@@ -397,9 +496,8 @@ impl<R: Files + Clock + Drop> FolderJournal<R> {
     }
 }
 
-// How much room a numbered file takes with so many bytes, and with the header that a directory's has before them.
-fn numbered_len(len: usize) -> u64 {
-    let len = (len as u64).saturating_add(HEADER_LEN as u64);
+// How much room so many bytes take on a disk.
+fn blocks_of(len: u64) -> u64 {
     len.div_ceil(BLOCK_LEN).saturating_mul(BLOCK_LEN)
 }
 
@@ -485,7 +583,7 @@ impl<R: Files + Clock + Drop> Journal<Outside> for FolderJournal<R> {
     fn store(&mut self, alloc: Global, number: u64, bytes: &[u8]) -> Result<(), FilesFault> {
         let when = now(self.log.files());
         write_record(&mut self.room, Note::Stored, number, when, &[], bytes)?;
-        self.put_record(number, when, Told::File, Room::Disk)?;
+        self.put_file_record(number, when)?;
         self.bodies.forget(number);
         Ok(())
     }
@@ -562,20 +660,13 @@ impl<R: Files + Clock + Drop> Journal<Outside> for FolderJournal<R> {
         }
     }
 
-    /// Whoever asks is about to store these files. The reserve is given to the disk where they find room in it: with
-    /// that they are stored on a full disk too. So is what another run left, which nothing is written over any more.
+    /// Whoever asks is about to store these files. The reserve is given to the disk where they find room in it, all
+    /// together or one after another: with that they are stored on a full disk too. So is what another run left, which
+    /// nothing is written over any more.
     fn numbers(&mut self, alloc: Global) -> Result<Vec<u64>, FilesFault> {
-        if self.log.is_left() || self.fits_in_reserve() {
+        let numbers = self.in_turn(alloc)?;
+        if self.log.is_left() || self.fits_in_reserve() || self.fits_in_turn(&numbers) {
             self.log.give_reserve();
-        }
-        let mut numbers = Vec::with_capacity(alloc, self.pieces.len())?;
-        // What was removed comes first, since that makes room on the disk.
-        for is_there in [false, true] {
-            for (number, piece) in self.pieces.iter() {
-                if piece.is_some() == is_there {
-                    numbers.push(*number)?;
-                }
-            }
         }
         Ok(numbers)
     }

@@ -1,4 +1,4 @@
-use Rattle.std.proofs.Common.{◌≡◌, ◌⊎◌, Some, sym, ap, ◌∙◌, subst}
+use Rattle.std.proofs.Common.{◌≡◌, ◌⊎◌, IfSome, Some, sym, ap, ◌∙◌, subst}
 use Rattle.eden_overlay_format.specs.Directory.{AreStorable}
 use Rattle.eden_overlay.specs.Held.{with_entries}
 use Rattle.eden_tree.specs.Directory.{Row}
@@ -9,6 +9,8 @@ use Rattle.eden_coupling.specs.Materialising.{IsChain, owned_along}
 use Rattle.eden_coupling.proofs.CallerLemmas.{put_can}
 use Rattle.eden_materialise.specs.Chains.{StaySound}
 use Rattle.eden_materialise.specs.Puts.{AtDirectory}
+use Rattle.eden_inode.specs.Listed.{DiffersAt}
+use Rattle.eden_materialise.proofs.OneChange.{put_told}
 use Rattle.eden_materialise.proofs.Listings.{then_loaded, put_can_be, put_stays_sound, put_above, put_refused, put_is}
 use Rattle.eden_materialise.proofs.entry_change.put_in.Goals as goal
 
@@ -53,6 +55,17 @@ store_chain-requires-clause-sound g c honest =
     let is = put_is p n c.args.entry c.in-Ok.was.entry c.in-Ok.was.unsaved x c.put_at.new.root m.row m.directory m.at m.holds c.in-Ok.ensures.ok in
     subst (λ (a : Row). AtDirectory p a (λ y d. StaySound (with_entries F y.number (listing_of d)) a p)) (sym is)
     (put_stays_sound g.W.World.honest g.W.World.repository F x p n (Some c.args.entry) c.requires.held honest)
+
+pub store_chain-requires-clause-differs : goal.store_chain-requires-clause-differs
+store_chain-requires-clause-differs g c honest =
+    let x = c.args.root.now in
+    let p = c.args.path.now in
+    let n = c.args.name.now in
+    let F = g.F.Files.stored c.args.overlay.now in
+    let m = c.requires.held.may in
+    let is = put_is p n c.args.entry c.in-Ok.was.entry c.in-Ok.was.unsaved x c.put_at.new.root m.row m.directory m.at m.holds c.in-Ok.ensures.ok in
+    subst (λ (a : Row). IfSome c.differing-changed.result (λ t. AtDirectory p a (λ y d. DiffersAt t.now F y.number (listing_of d)))) (sym is)
+    (put_told g.W.World.honest g.W.World.repository F x p n (Some c.args.entry) c.requires.held honest (λ t. t.now) c.differing-changed.result c.differing-changed.ensures)
 
 pub returns-in-Ok-store_chain-clause-ok : goal.returns-in-Ok-store_chain-clause-ok
 returns-in-Ok-store_chain-clause-ok g c y d at h =

@@ -1,10 +1,11 @@
-use Rattle.std.proofs.Common.{◌≡◌, None, ap, ◌∙◌}
+use Rattle.std.proofs.Common.{None, ap, ◌∙◌}
 use Rattle.eden_tree.specs.Directory.{Row}
 use Rattle.eden_coupling.specs.Chains.{Refused}
 use Rattle.eden_coupling.specs.Laws.{owned}
 use Rattle.eden_coupling.specs.Materialising.{owned_along}
 use Rattle.eden_coupling.proofs.CallerLemmas.{owned_chain}
 use Rattle.eden_materialise.proofs.Chains.{after_error}
+use Rattle.eden_materialise.proofs.OneChange.{drop_told}
 use Rattle.eden_materialise.proofs.Listings.{held_loaded, drop_sound, drop_refused, changed_is}
 use Rattle.eden_materialise.proofs.entry_change.take_out.Goals as goal
 
@@ -17,6 +18,11 @@ store_chain-requires-clause-chain g c =
 pub store_chain-requires-clause-sound : goal.store_chain-requires-clause-sound
 store_chain-requires-clause-sound g c honest =
     drop_sound g.W.World.honest g.W.World.repository (g.F.Files.stored c.args.overlay.now) c.args.root.now c.args.path.now c.args.name.now None c.requires.held honest
+
+pub store_chain-requires-clause-differs : goal.store_chain-requires-clause-differs
+store_chain-requires-clause-differs g c honest =
+    drop_told g.W.World.honest g.W.World.repository (g.F.Files.stored c.args.overlay.now) c.args.root.now c.args.path.now c.args.name.now None c.requires.held honest
+    (λ m. m.now) c.differing-changed.result c.differing-changed.ensures
 
 pub returns-in_err-store_chain-clause-strays : goal.returns-in_err-store_chain-clause-strays
 returns-in_err-store_chain-clause-strays g c honest =

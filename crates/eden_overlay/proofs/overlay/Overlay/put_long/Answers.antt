@@ -6,7 +6,7 @@ use Rattle.eden_overlay_format.proofs.CallerLemmas.{content_written}
 use Rattle.eden_overlay.specs.declared.recent.Kept.{Kept}
 use Rattle.eden_overlay.specs.Keeping.{AreKeptOf}
 use Rattle.eden_overlay.proofs.Puts.{put_here}
-use Rattle.eden_overlay.proofs.Remembered.{listed_beside}
+use Rattle.eden_overlay.proofs.Remembered.{body_beside}
 use Rattle.eden_overlay.proofs.Whole.{known_beside, more_whole}
 use Rattle.eden_overlay.proofs.overlay.Overlay.put_long.Goals as goal
 
@@ -22,8 +22,8 @@ invariant_of-self-2 g c = λ honest.
         subst (λ (v : Vec Kept Global). AreKeptOf G v.items) (sym c.note_whole.ensures.kept) beside.0,
         more_whole G k c.forget.new.self.whole.items c.note_whole.new.self.whole.items beside.1 c.note_whole.ensures.whole (ap is_some there),
       ),
-      listed_beside (g.F.Files.stored c.self.inside.files) (g.F.Files.stored c.replace_body.new.self) k _ c.self.inside.listed.kept c.unlist.new.self.kept (c.self.invariant honest).1
-          c.unlist.ensures c.replace_body.result (c.replace_body.ensures.ok honest) (c.replace_body.ensures.err honest),
+      body_beside (g.F.Files.stored c.self.inside.files) (g.F.Files.stored c.replace_body.new.self) k _ c.self.inside.last.kept c.release.new.self.kept (c.self.invariant honest).1
+          c.release.ensures c.replace_body.result (c.replace_body.ensures.ok honest) (c.replace_body.ensures.err honest),
     )
 
 pub invariant_of-self : goal.invariant_of-self
@@ -31,6 +31,6 @@ invariant_of-self g c = λ honest. (
   known_beside (g.F.Files.stored c.self.inside.files) (g.F.Files.stored c.replace_body.new.self) c.args.number _ c.self.inside.recent.kept.items c.forget.new.self.kept.items
       c.self.inside.recent.whole.items c.forget.new.self.whole.items
       (c.self.invariant honest).0 c.forget.ensures.kept c.forget.ensures.whole c.replace_body.result (c.replace_body.ensures.ok honest) (c.replace_body.ensures.err honest),
-  listed_beside (g.F.Files.stored c.self.inside.files) (g.F.Files.stored c.replace_body.new.self) c.args.number _ c.self.inside.listed.kept c.unlist.new.self.kept (c.self.invariant honest).1
-      c.unlist.ensures c.replace_body.result (c.replace_body.ensures.ok honest) (c.replace_body.ensures.err honest),
+  body_beside (g.F.Files.stored c.self.inside.files) (g.F.Files.stored c.replace_body.new.self) c.args.number _ c.self.inside.last.kept c.release.new.self.kept (c.self.invariant honest).1
+      c.release.ensures c.replace_body.result (c.replace_body.ensures.ok honest) (c.replace_body.ensures.err honest),
 )

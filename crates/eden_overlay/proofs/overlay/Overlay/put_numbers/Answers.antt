@@ -1,5 +1,5 @@
 use Rattle.std.proofs.Common.{refl}
-use Rattle.eden_overlay.proofs.Remembered.{listed_beside, listed_others}
+use Rattle.eden_overlay.proofs.Remembered.{body_beside, body_others}
 use Rattle.eden_overlay.proofs.Whole.{known_beside, known_others}
 use Rattle.eden_overlay.proofs.overlay.Overlay.put_numbers.Goals as goal
 
@@ -8,7 +8,7 @@ invariant_of-self g c = λ honest.
     let F = g.F.Files.stored c.self.inside.files in (
       known_others F F c.args.number c.self.inside.recent.kept.items c.forget.new.self.kept.items c.self.inside.recent.whole.items c.forget.new.self.whole.items (c.self.invariant honest).0
           c.forget.ensures.kept c.forget.ensures.whole refl,
-      listed_others F F c.args.number c.self.inside.listed.kept c.unlist.new.self.kept (c.self.invariant honest).1 c.unlist.ensures refl,
+      body_others F F c.args.number c.self.inside.last.kept c.release.new.self.kept (c.self.invariant honest).1 c.release.ensures refl,
     )
 
 pub invariant_of-self-2 : goal.invariant_of-self-2
@@ -16,6 +16,6 @@ invariant_of-self-2 g c = λ honest. (
   known_beside (g.F.Files.stored c.self.inside.files) (g.F.Files.stored c.replace-answer.new.self) c.args.number _ c.self.inside.recent.kept.items c.forget.new.self.kept.items
       c.self.inside.recent.whole.items c.forget.new.self.whole.items
       (c.self.invariant honest).0 c.forget.ensures.kept c.forget.ensures.whole c.replace-answer.result (c.replace-answer.ensures.ok honest) (c.replace-answer.ensures.err honest),
-  listed_beside (g.F.Files.stored c.self.inside.files) (g.F.Files.stored c.replace-answer.new.self) c.args.number _ c.self.inside.listed.kept c.unlist.new.self.kept (c.self.invariant honest).1
-      c.unlist.ensures c.replace-answer.result (c.replace-answer.ensures.ok honest) (c.replace-answer.ensures.err honest),
+  body_beside (g.F.Files.stored c.self.inside.files) (g.F.Files.stored c.replace-answer.new.self) c.args.number _ c.self.inside.last.kept c.release.new.self.kept (c.self.invariant honest).1
+      c.release.ensures c.replace-answer.result (c.replace-answer.ensures.ok honest) (c.replace-answer.ensures.err honest),
 )

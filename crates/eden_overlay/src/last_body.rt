@@ -4,17 +4,18 @@ ghost use Rattle.std.specs.Prelude.{◌≡◌, None, Some, length, IfOk, IfSome}
 ghost use Rattle.std.specs.Option.{option_map};
 ghost use Rattle.eden_overlay_format.specs.Changing.{entries_with, entry_as};
 ghost use Rattle.eden_overlay_format.specs.Directory.{IsStorable, directory_body};
-ghost use Rattle.eden_overlay.specs.Keeping.{IsKeptLong, listed_but, listed_of};
+ghost use Rattle.eden_overlay.specs.Keeping.{IsKeptLong, kept_but, kept_entries};
 
 use crate::room::Room;
 use eden_model::Name;
 use eden_overlay_format::{DirectoryBody, RowFacts};
 use std::alloc::{AllocError, Global};
 
-/// A body of fewer bytes, 1 KiB, isn't kept: its entries are soon written anew.
-const BODY_LEAST: usize = 1 << 10;
+/// A body of fewer bytes isn't kept: its entries are soon written anew.
+const BODY_LEAST: usize = 1 << 8;
 
-/// A body of more bytes, 4 MiB, isn't kept, nor is more room: so a large directory doesn't hold memory for good.
+/// A body of more bytes, 4 MiB, isn't kept, nor is more room for the next one: so a huge directory doesn't hold memory
+/// for good.
 const BODY_MOST: usize = 4 << 20;
 
 /// A directory's body in memory, and the number of the file that holds it.
@@ -26,18 +27,18 @@ pub(crate) struct KeptBody {
 
 /// The body of the directory that was stored last, if it is kept.
 #[derive(Drop)]
-pub(crate) struct Listed {
+pub(crate) struct LastBody {
     pub(crate) kept: Option<KeptBody>,
     /// The room that a directory's file was written in before.
     pub(crate) room: Room,
 }
 
-impl Listed {
+impl LastBody {
     /// None yet. It takes no memory.
-    pub(crate) fn new() -> Listed
+    pub(crate) fn new() -> LastBody
         ensures { result.kept ≡ None }
     {
-        Listed {
+        LastBody {
             kept: None,
             room: Room::new(BODY_MOST),
         }
@@ -61,7 +62,7 @@ impl Listed {
     ) -> Result<Option<DirectoryBody>, AllocError>
         requires storable { IfSome facts (λ f. IsStorable (entry_as name.now f)) }
         ensures made { IfOk result (λ made. made ≡ option_map
-            (entries_with name.now (option_map (entry_as name.now) facts)) (listed_of number self.old.kept)) }
+            (entries_with name.now (option_map (entry_as name.now) facts)) (kept_entries number self.old.kept)) }
         ensures same { self.new.kept ≡ self.old.kept }
     {
         match &self.kept {
@@ -78,9 +79,9 @@ impl Listed {
     pub(crate) fn keep(&mut self, number: u64, body: DirectoryBody)
         ensures kept { IsKeptLong (length (directory_body body))
             → self.new.kept ≡ Some (record { number = number; body = body }) }
-        ensures other { ¬ IsKeptLong (length (directory_body body)) → self.new.kept ≡ listed_but number self.old.kept }
+        ensures other { ¬ IsKeptLong (length (directory_body body)) → self.new.kept ≡ kept_but number self.old.kept }
     {
-        self.unlist(number);
+        self.release(number);
         let len = body.bytes().len();
         if len < BODY_LEAST || len > BODY_MOST {
             return self.spare(body);
@@ -91,8 +92,8 @@ impl Listed {
     }
 
     /// Drops the body of that directory, if it is kept; that of another stays.
-    pub(crate) fn unlist(&mut self, number: u64)
-        ensures { self.new.kept ≡ listed_but number self.old.kept }
+    pub(crate) fn release(&mut self, number: u64)
+        ensures { self.new.kept ≡ kept_but number self.old.kept }
     {
         match self.kept.take() {
             Some(kept) if kept.number == number => self.spare(kept.body),
