@@ -7,7 +7,9 @@ use Rattle.std.specs.declared.io.Write.{Ghosts as Write}
 use Rattle.eden_model.specs.declared.world.World.{Ghosts}
 use Rattle.eden_overlay.specs.declared.files.Files.{Ghosts as Files}
 use Rattle.mountd_options.specs.declared.command.MountOptions.{MountOptions}
-use Rattle.mountd.specs.Serving.{IsAnyRun, IsAskedRun, IsKeptRun}
+use Rattle.mountd.specs.declared.mount_files.EitherFiles.{EitherFiles}
+use Rattle.mountd.specs.declared.mount_files.EitherFiles.TheVariants.{Kept}
+use Rattle.mountd.specs.Serving.{IsOverlayRun, IsAskedRun, IsKeptRun}
 
 module _ {T H B : Type 0} (path : H → B) (named : T → B) where
   -- what the holding of what was named came to
@@ -20,20 +22,20 @@ module _ {T H B : Type 0} (path : H → B) (named : T → B) where
       let one : option_map path held ≡ option_map named taken = subst (λ r. IsHeldFor taken r) ok says in
       subst (λ t. option_map path is ≡ option_map named t) same (subst (λ h. option_map path h ≡ option_map named taken) of one)
 
-  module _ {W I O M F : Type 0} (w : Ghosts W) (i : Read I) (o : Write O) (m : Files M W) (f : Files F W) where
+  module _ {W I O M K : Type 0} (w : Ghosts W) (i : Read I) (o : Write O) (f : Files (EitherFiles M K) W) where
     kept : (held : H) (folder : Option T) (options : MountOptions) (status : ℕ) → option_map path (Some held) ≡ option_map named folder
-        → (status ≡ 3) ⊎ IsAnyRun w i o f options status → (status ≡ 3) ⊎ IsKeptRun w i o m f folder options status
+        → (status ≡ 3) ⊎ IsOverlayRun w i o f options status → (status ≡ 3) ⊎ IsKeptRun w i o f folder options status
     kept held None options status same run = absurd (none-some _ (sym same))
     kept held (Some name) options status same run = run
 
     pub kept_in : {E : Type 0} (r : Result (Option H) E) (held : Option H) (one : H) (taken folder : Option T) (options : MountOptions) (status : ℕ)
         → IsHeldFor taken r → r ≡ Ok held → held ≡ Some one → taken ≡ folder
-        → (status ≡ 3) ⊎ IsAnyRun w i o f options status → (status ≡ 3) ⊎ IsKeptRun w i o m f folder options status
+        → (status ≡ 3) ⊎ IsOverlayRun w i o f options status → (status ≡ 3) ⊎ IsKeptRun w i o f folder options status
     kept_in r held one taken folder options status says ok some same =
         kept one folder options status (held_for r held (Some one) taken folder says ok some same)
 
-module _ {W I O F : Type 0} (w : Ghosts W) (i : Read I) (o : Write O) (f : Files F W) where
-  pub of_any : (options : MountOptions) (files : F) (status : ℕ) → (status ≡ 3) ⊎ IsAskedRun w i o f options files status
-      → (status ≡ 3) ⊎ IsAnyRun w i o f options status
-  of_any options files status (inl is) = inl is
-  of_any options files status (inr run) = inr (files, run)
+module _ {W I O M K : Type 0} (w : Ghosts W) (i : Read I) (o : Write O) (f : Files (EitherFiles M K) W) where
+  pub of_kept : (options : MountOptions) (files : K) (status : ℕ) → (status ≡ 3) ⊎ IsAskedRun w i o f options (Kept files) status
+      → (status ≡ 3) ⊎ IsOverlayRun w i o f options status
+  of_kept options files status (inl is) = inl is
+  of_kept options files status (inr run) = inr (files, run)

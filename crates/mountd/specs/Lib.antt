@@ -1,8 +1,10 @@
 pub mod Dematerialised
 pub mod Endings
 pub mod Holding
+pub mod MountFiles
 pub mod Runs
 pub mod Serving
 pub mod Snapshots
+pub mod Sources
 pub mod Taking
 pub mod Workers

@@ -12,6 +12,8 @@ use Rattle.eden_sockets.specs.Addresses.{is_socket}
 use Rattle.mountd_options.specs.declared.command.MountOptions.{MountOptions}
 use Rattle.mountd_options.specs.declared.command.ServeOptions.{ServeOptions}
 use Rattle.mountd.specs.Runs.{IsSharedRun, limit_of}
+use Rattle.mountd.specs.declared.mount_files.EitherFiles.{EitherFiles}
+use Rattle.mountd.specs.declared.mount_files.EitherFiles.TheVariants.{Memory, Kept}
 
 -- how what a folder keeps is opened
 abbrev pub opening_of : Bool → Opening
@@ -32,15 +34,15 @@ module _ {W I O : Type 0} (w : Ghosts W) (i : Read I) (o : Write O) where
   IsAskedRun f options files status =
       IsSharedRun w f i o (limit_of options.history options.limits) (base_of options) options.limits files status
 
-  -- .. over some such files
-  abbrev pub IsAnyRun : {F : Type 0} → Files F W → MountOptions → ℕ → Type 0
-  IsAnyRun {F} f options status = (files : F) × IsAskedRun f options files status
+  module _ {M K : Type 0} (f : Files (EitherFiles M K) W) where
+    -- .. over a folder's files
+    abbrev pub IsOverlayRun : MountOptions → ℕ → Type 0
+    IsOverlayRun options status = (files : K) × IsAskedRun f options (Kept files) status
 
-  module _ {M F : Type 0} (m : Files M W) (f : Files F W) where
     -- .. over files in memory, of which none is there yet, if no folder is to keep the changes, and else over a folder's
     abbrev pub IsKeptRun : {T : Type 0} → Option T → MountOptions → ℕ → Type 0
-    IsKeptRun None options status = (files : M) × IsNothing (m.stored files) × IsAskedRun m options files status
-    IsKeptRun (Some folder) options status = IsAnyRun f options status
+    IsKeptRun None options status = (files : M) × IsNothing (f.stored (Memory files)) × IsAskedRun f options (Memory files) status
+    IsKeptRun (Some folder) options status = IsOverlayRun options status
 
     -- .. or the folder, or where objects come from, couldn't be opened, and the status is 3
     abbrev pub IsServeRun : MountOptions → ℕ → Type 0

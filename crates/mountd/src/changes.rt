@@ -9,7 +9,7 @@ use crate::overlay_files::{overlay_files, running_files};
 use crate::report;
 use crate::report::repository_name;
 use crate::snapshot::{TakeFault, snapshot_name, taken};
-use crate::sources::{folder_source, git_source, shared_source, socket_source};
+use crate::sources::object_source;
 use eden_git::GitFault;
 use eden_model::{Id, Outside, World};
 use eden_overlay::{Files, Overlay};
@@ -79,24 +79,7 @@ fn tell_files<F: Files<Outside>>(
 
 /// Tells them as lines on standard output, with the objects that are asked for.
 fn tell_with<F: Files<Outside>>(rt: &HostRuntime, objects: Objects, looked: Looked<F>) -> ExitCode {
-    match objects {
-        Objects::Folder(folder) => {
-            let source = folder_source(rt, folder);
-            tell_made::<Outside, _, _, _>(rt, looked, source, lines(rt))
-        }
-        Objects::Server(server) => {
-            let source = socket_source(rt, server);
-            tell_made::<Outside, _, _, _>(rt, looked, source, lines(rt))
-        }
-        Objects::Repository(repository) => {
-            let source = git_source(rt, repository);
-            tell_opened::<Outside, _, _, _>(rt, looked, source, lines(rt))
-        }
-        Objects::RepositoryAndServer(repository, server) => {
-            let source = shared_source(rt, repository, server);
-            tell_opened::<Outside, _, _, _>(rt, looked, source, lines(rt))
-        }
-    }
+    tell_opened::<Outside, _, _, _>(rt, looked, object_source(rt, objects), lines(rt))
 }
 
 /// Lines on standard output, of which none is written yet.

@@ -8,7 +8,7 @@ use crate::overlay_files::overlay_files;
 use crate::report;
 use crate::report::repository_name;
 use crate::snapshot::closed_name;
-use crate::sources::{folder_source, git_source, shared_source, socket_source};
+use crate::sources::object_source;
 use eden_git::GitFault;
 use eden_model::{Id, Outside, World};
 use eden_overlay::{Files, Overlay};
@@ -50,16 +50,7 @@ pub fn dematerialise(rt: &HostRuntime, options: DematerialiseOptions) -> ExitCod
 
 /// Has it stand there with the objects that are asked for.
 fn move_with<F: Files<Outside>>(rt: &HostRuntime, objects: Objects, moving: Moving<F>) -> ExitCode {
-    match objects {
-        Objects::Folder(folder) => run::<Outside, _, _>(rt, moving, folder_source(rt, folder)),
-        Objects::Server(server) => run::<Outside, _, _>(rt, moving, socket_source(rt, server)),
-        Objects::Repository(repository) => {
-            run_opened::<Outside, _, _>(rt, moving, git_source(rt, repository))
-        }
-        Objects::RepositoryAndServer(repository, server) => {
-            run_opened::<Outside, _, _>(rt, moving, shared_source(rt, repository, server))
-        }
-    }
+    run_opened::<Outside, _, _>(rt, moving, object_source(rt, objects))
 }
 
 /// Has it stand there where its objects' repository could be opened.

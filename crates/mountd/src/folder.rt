@@ -7,11 +7,12 @@ ghost use Rattle.mountd.specs.Runs.{IsFolderRun, copies_of, limit_of};
 use crate::hold::{HoldFault, hold_overlay, opening};
 use crate::kernel::{KernelInput, KernelOutput};
 use crate::look::{look, note_changes};
+use crate::mount_files::MountFiles;
 use crate::overlay_files::overlay_files;
 use crate::report;
 use crate::report::repository_name;
 use crate::shared_folder::share_files;
-use crate::sources::{folder_source, git_source, shared_source, socket_source};
+use crate::sources::object_source;
 use eden_fuse_life::{Look, live_folder};
 use eden_git::GitFault;
 use eden_history::{Counted, History, Kept};
@@ -20,8 +21,8 @@ use eden_mount::Config;
 use eden_overlay::{Files, MemoryFiles};
 use eden_source::Source;
 use eden_stdio_life::{Backing, Base};
-use mountd_options::{FuseOptions, HistoryOption, MountOptions, Objects};
-use std::marker::{Send, Sync};
+use mountd_options::{FuseOptions, HistoryOption, MountOptions};
+use std::marker::Sync;
 use std::path::PathBuf;
 use std::process::ExitCode;
 use std::sync::Wait;
@@ -36,7 +37,10 @@ pub fn folder<R: Threads + Wait + Sync>(
     let look = look(rt, options.since);
     match hold_overlay(rt, rt.alloc(), options.mount.overlay.take()) {
         Err(fault) => report::unopened(rt, fault.name()),
-        Ok(None) => show_files(threads, rt, options, look, MemoryFiles::new(rt.alloc())),
+        Ok(None) => {
+            let files = MountFiles::Memory(MemoryFiles::new(rt.alloc()));
+            show_files(threads, rt, options, look, files)
+        }
         Ok(Some((folder, lock))) => {
             let status = show_overlay(threads, rt, options, look, folder);
             drop(lock);
@@ -60,18 +64,18 @@ fn show_overlay<R: Threads + Wait + Sync>(
         Err(fault) => report::unopened(rt, fault.name()),
         Ok(mut files) => {
             note_changes(rt, &place, &mut files, &mut look);
-            show_files(threads, rt, options, look, files)
+            show_files(threads, rt, options, look, MountFiles::Kept(files))
         }
     }
 }
 
 /// Shows a mount over these files, by as many threads as are asked for.
-fn show_files<R: Threads + Wait + Sync, F: Files<Outside> + Send>(
+fn show_files<R: Threads + Wait + Sync>(
     threads: &R,
     rt: &HostRuntime,
     options: FuseOptions,
     look: Look,
-    files: F,
+    files: MountFiles,
 ) -> ExitCode {
     if options.threads > 1 {
         return share_files(threads, rt, options.mount, look, files);
@@ -80,12 +84,7 @@ fn show_files<R: Threads + Wait + Sync, F: Files<Outside> + Send>(
 }
 
 /// Shows a mount over these files by one thread, with the objects that are asked for.
-fn show_alone<F: Files<Outside>>(
-    rt: &HostRuntime,
-    options: MountOptions,
-    look: Look,
-    files: F,
-) -> ExitCode {
+fn show_alone(rt: &HostRuntime, options: MountOptions, look: Look, files: MountFiles) -> ExitCode {
     let MountOptions {
         root,
         objects,
@@ -98,24 +97,8 @@ fn show_alone<F: Files<Outside>>(
         root,
         opening: opening(rescan),
     };
-    match objects {
-        Objects::Folder(folder) => {
-            let source = folder_source(rt, folder);
-            run::<Outside, _, _>(rt, base, history, &limits, look, Backing { files, source })
-        }
-        Objects::Server(server) => {
-            let source = socket_source(rt, server);
-            run::<Outside, _, _>(rt, base, history, &limits, look, Backing { files, source })
-        }
-        Objects::Repository(repository) => {
-            let source = git_source(rt, repository);
-            run_opened::<Outside, _, _>(rt, base, history, &limits, look, files, source)
-        }
-        Objects::RepositoryAndServer(repository, server) => {
-            let source = shared_source(rt, repository, server);
-            run_opened::<Outside, _, _>(rt, base, history, &limits, look, files, source)
-        }
-    }
+    let source = object_source(rt, objects);
+    run_opened::<Outside, _, _>(rt, base, history, &limits, look, files, source)
 }
 
 /// Shows a mount over these files, where its objects' repository could be opened.

@@ -8,6 +8,7 @@ mod hold;
 mod kernel;
 mod lines;
 mod look;
+mod mount_files;
 mod overlay_files;
 mod path_text;
 mod repair;

@@ -3,13 +3,14 @@ ghost use Rattle.std.specs.Prelude.{◌≡◌, ◌≤◌, ◌⊎◌, IfOk, IsErr
 ghost use Rattle.std.specs.Process.{exit_status};
 ghost use Rattle.eden_checkout.specs.Opening.{MayOpen};
 ghost use Rattle.mountd.specs.Runs.{IsSharedRun, limit_of};
-ghost use Rattle.mountd.specs.Serving.{IsAnyRun, IsAskedRun, IsServeRun, ServesAt};
+ghost use Rattle.mountd.specs.Serving.{IsOverlayRun, IsAskedRun, IsServeRun, ServesAt};
 
 use crate::hold::{hold_address, hold_overlay, let_go, opening};
-use crate::overlay_files::{OverlayFiles, overlay_files};
+use crate::mount_files::MountFiles;
+use crate::overlay_files::overlay_files;
 use crate::report;
 use crate::report::repository_name;
-use crate::sources::{folder_sources, git_sources, shared_sources, socket_sources};
+use crate::sources::object_sources;
 use eden_git::GitFault;
 use eden_history::{Counted, History, Kept};
 use eden_host::{Accepts, Fetchers};
@@ -20,7 +21,7 @@ use eden_serve_life::live_shared;
 use eden_sockets::{Listener, Stream};
 use eden_source::Source;
 use eden_stdio_life::{Backing, Base};
-use mountd_options::{HistoryOption, MountOptions, Objects, ServeOptions};
+use mountd_options::{HistoryOption, MountOptions, ServeOptions};
 use std::io::{Read, Write};
 use std::marker::{Send, Sync};
 use std::net::TcpStream;
@@ -32,9 +33,6 @@ use std::thread::Threads;
 // What a caller is connected by.
 type Connection = Stream<TcpStream>;
 
-// Files that go with the program.
-type Unkept = MemoryFiles<Outside>;
-
 /// Serves a session to each connection to an address, which is told on standard output, until as many as are asked for
 /// have ended. A path is held before anything is opened; where it can't be, the status is 4.
 pub fn serve<R: Threads + Wait + Sync>(
@@ -44,7 +42,7 @@ pub fn serve<R: Threads + Wait + Sync>(
 ) -> ExitCode
     requires fetchers { 1 ≤ options.fetchers }
     ensures { ServesAt ⟦<Outside as World>⟧ ⟦<Connection as Read>⟧ ⟦<Connection as Write>⟧
-        ⟦<Unkept as Files<Outside>>⟧ ⟦<OverlayFiles as Files<Outside>>⟧ options (exit_status result) }
+        ⟦<MountFiles as Files<Outside>>⟧ options (exit_status result) }
 {
     match hold_address(rt, rt.alloc(), &options.address) {
         Err(fault) => report::unheard(rt, fault.name()),
@@ -64,14 +62,15 @@ fn serve_held<R: Threads + Wait + Sync>(
 ) -> ExitCode
     requires fetchers { 1 ≤ options.fetchers }
     ensures { IsServeRun ⟦<Outside as World>⟧ ⟦<Connection as Read>⟧ ⟦<Connection as Write>⟧
-        ⟦<Unkept as Files<Outside>>⟧ ⟦<OverlayFiles as Files<Outside>>⟧ options.mount (exit_status result) }
+        ⟦<MountFiles as Files<Outside>>⟧ options.mount (exit_status result) }
 {
     let held = match hold_overlay(rt, rt.alloc(), options.mount.overlay.take()) {
         Err(fault) => return report::unopened(rt, fault.name()),
         Ok(held) => held,
     };
     let Some((folder, lock)) = held else {
-        return serve_files(threads, rt, options, MemoryFiles::new(rt.alloc()));
+        let files = MountFiles::Memory(MemoryFiles::new(rt.alloc()));
+        return serve_files(threads, rt, options, files);
     };
     let status = serve_folder(threads, rt, options, folder);
     drop(lock);
@@ -86,26 +85,26 @@ fn serve_folder<R: Threads + Wait + Sync>(
     folder: PathBuf,
 ) -> ExitCode
     requires fetchers { 1 ≤ options.fetchers }
-    ensures { (exit_status result ≡ 3) ⊎ IsAnyRun ⟦<Outside as World>⟧ ⟦<Connection as Read>⟧
-        ⟦<Connection as Write>⟧ ⟦<OverlayFiles as Files<Outside>>⟧ options.mount (exit_status result) }
+    ensures { (exit_status result ≡ 3) ⊎ IsOverlayRun ⟦<Outside as World>⟧ ⟦<Connection as Read>⟧
+        ⟦<Connection as Write>⟧ ⟦<MountFiles as Files<Outside>>⟧ options.mount (exit_status result) }
 {
     let files = match overlay_files(rt, folder) {
         Err(fault) => return report::unopened(rt, fault.name()),
         Ok(files) => files,
     };
-    serve_files(threads, rt, options, files)
+    serve_files(threads, rt, options, MountFiles::Kept(files))
 }
 
 /// Serves sessions over these files, with the objects that are asked for. Status 3, where those can't be had.
-fn serve_files<R: Threads + Wait + Sync, F: Files<Outside> + Send>(
+fn serve_files<R: Threads + Wait + Sync>(
     threads: &R,
     rt: &HostRuntime,
     options: ServeOptions,
-    files: F,
+    files: MountFiles,
 ) -> ExitCode
     requires fetchers { 1 ≤ options.fetchers }
     ensures { (exit_status result ≡ 3) ⊎ IsAskedRun ⟦<Outside as World>⟧ ⟦<Connection as Read>⟧
-        ⟦<Connection as Write>⟧ F.Files options.mount files (exit_status result) }
+        ⟦<Connection as Write>⟧ ⟦<MountFiles as Files<Outside>>⟧ options.mount files (exit_status result) }
 {
     let ServeOptions {
         mount,
@@ -125,34 +124,10 @@ fn serve_files<R: Threads + Wait + Sync, F: Files<Outside> + Send>(
         opening: opening(rescan),
     };
     let listener = Listener::new(*rt, *rt, address);
-    match objects {
-        Objects::Folder(folder) => {
-            let sources = folder_sources(rt, folder.as_str(), fetchers);
-            let sources = sources.map_err(|_| GitFault::Memory);
-            serve_fetched::<Outside, _, _, _, _, _, _>(
-                threads, rt, base, history, &limits, files, sources, listener,
-            )
-        }
-        Objects::Server(server) => {
-            let sources = socket_sources(rt, &server, fetchers);
-            let sources = sources.map_err(|_| GitFault::Memory);
-            serve_fetched::<Outside, _, _, _, _, _, _>(
-                threads, rt, base, history, &limits, files, sources, listener,
-            )
-        }
-        Objects::Repository(repository) => {
-            let sources = git_sources(rt, repository.as_str(), fetchers);
-            serve_fetched::<Outside, _, _, _, _, _, _>(
-                threads, rt, base, history, &limits, files, sources, listener,
-            )
-        }
-        Objects::RepositoryAndServer(repository, server) => {
-            let sources = shared_sources(rt, repository.as_str(), &server, fetchers);
-            serve_fetched::<Outside, _, _, _, _, _, _>(
-                threads, rt, base, history, &limits, files, sources, listener,
-            )
-        }
-    }
+    let sources = object_sources(rt, &objects, fetchers);
+    serve_fetched::<Outside, _, _, _, _, _, _>(
+        threads, rt, base, history, &limits, files, sources, listener,
+    )
 }
 
 /// Serves sessions on a mount over these files, where the sources of its fetchers could be made.

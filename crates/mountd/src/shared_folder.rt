@@ -6,9 +6,10 @@ ghost use Rattle.mountd.specs.Runs.{IsSharedFolderRun, limit_of};
 
 use crate::hold::opening;
 use crate::kernel::{KernelInput, KernelLines, KernelOutput};
+use crate::mount_files::MountFiles;
 use crate::report;
 use crate::report::repository_name;
-use crate::sources::{folder_sources, git_sources, shared_sources, socket_sources};
+use crate::sources::object_sources;
 use eden_fuse_host::Lines;
 use eden_fuse_life::Look;
 use eden_fuse_session::{Receiver, Sender};
@@ -20,19 +21,19 @@ use eden_mount::Config;
 use eden_overlay::Files;
 use eden_source::Source;
 use eden_stdio_life::{Backing, Base};
-use mountd_options::{HistoryOption, MountOptions, Objects};
+use mountd_options::{HistoryOption, MountOptions};
 use std::marker::{Send, Sync};
 use std::process::ExitCode;
 use std::sync::Wait;
 use std::thread::Threads;
 
 /// Shows a mount over these files by several threads, with the objects that are asked for.
-pub fn share_files<R: Threads + Wait + Sync, F: Files<Outside> + Send>(
+pub fn share_files<R: Threads + Wait + Sync>(
     threads: &R,
     rt: &HostRuntime,
     options: MountOptions,
     look: Look,
-    files: F,
+    files: MountFiles,
 ) -> ExitCode {
     let MountOptions {
         root,
@@ -49,34 +50,10 @@ pub fn share_files<R: Threads + Wait + Sync, F: Files<Outside> + Send>(
         root,
         opening: opening(rescan),
     };
-    match objects {
-        Objects::Folder(folder) => {
-            let sources = folder_sources(rt, folder.as_str(), count);
-            let sources = sources.map_err(|_| GitFault::Memory);
-            share_fetched::<Outside, _, _, _, _, _, _>(
-                threads, rt, base, history, &limits, look, files, sources, &lines,
-            )
-        }
-        Objects::Server(server) => {
-            let sources = socket_sources(rt, &server, count);
-            let sources = sources.map_err(|_| GitFault::Memory);
-            share_fetched::<Outside, _, _, _, _, _, _>(
-                threads, rt, base, history, &limits, look, files, sources, &lines,
-            )
-        }
-        Objects::Repository(repository) => {
-            let sources = git_sources(rt, repository.as_str(), count);
-            share_fetched::<Outside, _, _, _, _, _, _>(
-                threads, rt, base, history, &limits, look, files, sources, &lines,
-            )
-        }
-        Objects::RepositoryAndServer(repository, server) => {
-            let sources = shared_sources(rt, repository.as_str(), &server, count);
-            share_fetched::<Outside, _, _, _, _, _, _>(
-                threads, rt, base, history, &limits, look, files, sources, &lines,
-            )
-        }
-    }
+    let sources = object_sources(rt, &objects, count);
+    share_fetched::<Outside, _, _, _, _, _, _>(
+        threads, rt, base, history, &limits, look, files, sources, &lines,
+    )
 }
 
 /// Shows a mount over these files, where the sources of its threads could be made.

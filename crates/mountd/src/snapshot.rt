@@ -10,7 +10,7 @@ use crate::overlay_files::overlay_files;
 use crate::report;
 use crate::report::repository_name;
 use crate::sink::FolderSink;
-use crate::sources::{folder_source, git_source, shared_source, socket_source};
+use crate::sources::object_source;
 use eden_git::GitFault;
 use eden_model::{Id, Outside, World};
 use eden_object_writer::{Progress, Store};
@@ -85,16 +85,7 @@ fn take_with<F: Files<Outside>, K: Sink<Outside> + Drop>(
     objects: Objects,
     work: Work<F, K>,
 ) -> ExitCode {
-    match objects {
-        Objects::Folder(folder) => run::<Outside, _, _, _>(rt, work, folder_source(rt, folder)),
-        Objects::Server(server) => run::<Outside, _, _, _>(rt, work, socket_source(rt, server)),
-        Objects::Repository(repository) => {
-            run_opened::<Outside, _, _, _>(rt, work, git_source(rt, repository))
-        }
-        Objects::RepositoryAndServer(repository, server) => {
-            run_opened::<Outside, _, _, _>(rt, work, shared_source(rt, repository, server))
-        }
-    }
+    run_opened::<Outside, _, _, _>(rt, work, object_source(rt, objects))
 }
 
 /// Does the work where its objects' repository could be opened.

@@ -1,17 +1,58 @@
 //! Where the objects of a mount come from: a folder, a server of this machine, a Git repository, or that and a server.
-ghost use Rattle.std.specs.Prelude.{◌≡◌, ◌≤◌, IfOk, length};
+ghost use Rattle.std.specs.Prelude.{◌≡◌, IfOk, length};
+ghost use Rattle.mountd.specs.Sources.{IsSourceOf};
 
 use eden_fallback::Fallback;
 use eden_git::{GitFault, GitSource};
+use eden_model::{Cause, Id, Outside};
 use eden_remote::SocketSource;
 use eden_sockets::Address;
-use eden_source::FolderSource;
-use std::alloc::AllocError;
+use eden_source::{FolderSource, Source};
+use mountd_options::Objects;
+use std::alloc::{AllocError, Global};
 use std::path::PathBuf;
 use std::time::Duration;
 
 /// How long a server of objects may keep an answer, in seconds.
 const PATIENCE: u64 = 30;
+
+/// The source that the options of a mount name. It is one type, so that a mount is compiled once and not for each.
+#[derive(Drop)]
+pub enum ObjectSource {
+    Folder(FolderSource<HostRuntime>),
+    Server(SocketSource<HostRuntime>),
+    Repository(GitSource<HostRuntime>),
+    /// For what the repository lacks the server is asked.
+    RepositoryAndServer(Fallback<GitSource<HostRuntime>, SocketSource<HostRuntime>>),
+}
+
+impl Source<Outside> for ObjectSource {
+    ghost use Rattle.mountd.specs.Sources.{FetchedFromSource, failures_of};
+
+    ghost fetched = { FetchedFromSource };
+
+    ghost failures = { failures_of };
+
+    fn failures(&self) -> u64 {
+        match self {
+            ObjectSource::Folder(source) => Source::<Outside>::failures(source),
+            ObjectSource::Server(source) => Source::<Outside>::failures(source),
+            ObjectSource::Repository(source) => Source::<Outside>::failures(source),
+            ObjectSource::RepositoryAndServer(source) => Source::<Outside>::failures(source),
+        }
+    }
+
+    fn fetch(&mut self, alloc: Global, id: Id) -> Result<Vec<u8>, Cause> {
+        match self {
+            ObjectSource::Folder(source) => Source::<Outside>::fetch(source, alloc, id),
+            ObjectSource::Server(source) => Source::<Outside>::fetch(source, alloc, id),
+            ObjectSource::Repository(source) => Source::<Outside>::fetch(source, alloc, id),
+            ObjectSource::RepositoryAndServer(source) => {
+                Source::<Outside>::fetch(source, alloc, id)
+            }
+        }
+    }
+}
 
 /// A source over a folder.
 pub fn folder_source(rt: &HostRuntime, folder: String) -> FolderSource<HostRuntime> {
@@ -19,7 +60,7 @@ pub fn folder_source(rt: &HostRuntime, folder: String) -> FolderSource<HostRunti
 }
 
 /// A source over the server at this address.
-pub fn socket_source(rt: &HostRuntime, server: Address) -> SocketSource<HostRuntime> {
+fn socket_source(rt: &HostRuntime, server: Address) -> SocketSource<HostRuntime> {
     SocketSource::new(rt.alloc(), *rt, server, Duration::from_secs(PATIENCE))
 }
 
@@ -31,81 +72,56 @@ pub fn git_source(
     GitSource::open(rt.alloc(), *rt, PathBuf::from(repository))
 }
 
-/// A source over the Git repository that is there, and for what it lacks over the server at this address.
-pub fn shared_source(
-    rt: &HostRuntime,
-    repository: String,
-    server: Address,
-) -> Result<Fallback<GitSource<HostRuntime>, SocketSource<HostRuntime>>, GitFault> {
-    let source = git_source(rt, repository)?;
-    Ok(Fallback::new(source, socket_source(rt, server)))
-}
-
-/// Sources over a folder, so many. The only error is want of memory.
-pub fn folder_sources(
-    rt: &HostRuntime,
-    folder: &str,
-    count: u32,
-) -> Result<Vec<FolderSource<HostRuntime>>, AllocError>
-    ensures count { IfOk result (λ sources. length sources.items ≡ count) }
+/// The source that these options name, or why there is no such repository.
+pub fn object_source(rt: &HostRuntime, objects: Objects) -> Result<ObjectSource, GitFault>
+    ensures { IfOk result (IsSourceOf objects) }
 {
-    let mut sources = Vec::new(rt.alloc());
-    for _made in 0..count {
-        let folder = String::from_str(rt.alloc(), folder)?;
-        sources.push(folder_source(rt, folder))?;
+    match objects {
+        Objects::Folder(folder) => Ok(ObjectSource::Folder(folder_source(rt, folder))),
+        Objects::Server(server) => Ok(ObjectSource::Server(socket_source(rt, server))),
+        Objects::Repository(repository) => {
+            let source = git_source(rt, repository)?;
+            Ok(ObjectSource::Repository(source))
+        }
+        Objects::RepositoryAndServer(repository, server) => {
+            let first = git_source(rt, repository)?;
+            let source = Fallback::new(first, socket_source(rt, server));
+            Ok(ObjectSource::RepositoryAndServer(source))
+        }
     }
-    Ok(sources)
 }
 
-/// Sources over the server at this address, so many, each with a connection of its own. The only error is want of
-/// memory.
-pub fn socket_sources(
-    rt: &HostRuntime,
-    server: &Address,
-    count: u32,
-) -> Result<Vec<SocketSource<HostRuntime>>, AllocError>
-    ensures count { IfOk result (λ sources. length sources.items ≡ count) }
+/// The same options once more.
+fn copied(alloc: Global, objects: &Objects) -> Result<Objects, AllocError>
+    ensures { IfOk result (λ copy. copy ≡ objects.now) }
 {
-    let mut sources = Vec::new(rt.alloc());
-    for _made in 0..count {
-        let server = server.copy(rt.alloc())?;
-        sources.push(socket_source(rt, server))?;
+    match objects {
+        Objects::Folder(folder) => Ok(Objects::Folder(String::from_str(alloc, folder.as_str())?)),
+        Objects::Server(server) => Ok(Objects::Server(server.copy(alloc)?)),
+        Objects::Repository(folder) => {
+            Ok(Objects::Repository(String::from_str(alloc, folder.as_str())?))
+        }
+        Objects::RepositoryAndServer(folder, server) => {
+            let server = server.copy(alloc)?;
+            let folder = String::from_str(alloc, folder.as_str())?;
+            Ok(Objects::RepositoryAndServer(folder, server))
+        }
     }
-    Ok(sources)
 }
 
-/// Sources over the Git repository that is there, so many, each with files of its own that it has open.
-pub fn git_sources(
+/// Sources of which these options name one, so many, each with files or a connection of its own. `Memory` also where a
+/// folder's or a server's find none.
+pub fn object_sources(
     rt: &HostRuntime,
-    repository: &str,
+    objects: &Objects,
     count: u32,
-) -> Result<Vec<GitSource<HostRuntime>>, GitFault>
+) -> Result<Vec<ObjectSource>, GitFault>
     ensures count { IfOk result (λ sources. length sources.items ≡ count) }
 {
     let mut sources = Vec::new(rt.alloc());
     for _made in 0..count {
-        let repository = String::from_str(rt.alloc(), repository).map_err(|_| GitFault::Memory)?;
-        let source = git_source(rt, repository)?;
-        sources.push(source).map_err(|_| GitFault::Memory)?;
-    }
-    Ok(sources)
-}
-
-/// Sources over the Git repository that is there, so many, which for what it lacks have each a connection of its own to
-/// the server at this address.
-pub fn shared_sources(
-    rt: &HostRuntime,
-    repository: &str,
-    server: &Address,
-    count: u32,
-) -> Result<Vec<Fallback<GitSource<HostRuntime>, SocketSource<HostRuntime>>>, GitFault>
-    ensures count { IfOk result (λ sources. length sources.items ≡ count) }
-{
-    let mut sources = Vec::new(rt.alloc());
-    for _made in 0..count {
-        let repository = String::from_str(rt.alloc(), repository).map_err(|_| GitFault::Memory)?;
-        let server = server.copy(rt.alloc()).map_err(|_| GitFault::Memory)?;
-        let source = shared_source(rt, repository, server)?;
+        let objects = copied(rt.alloc(), objects).map_err(|_| GitFault::Memory)?;
+        let source = object_source(rt, objects)?;
         sources.push(source).map_err(|_| GitFault::Memory)?;
     }
     Ok(sources)

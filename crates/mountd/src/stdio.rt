@@ -5,10 +5,11 @@ ghost use Rattle.eden_checkout.specs.Opening.{MayOpen};
 ghost use Rattle.mountd.specs.Runs.{IsRun, copies_of, limit_of};
 
 use crate::hold::{hold_overlay, opening};
+use crate::mount_files::MountFiles;
 use crate::overlay_files::overlay_files;
 use crate::report;
 use crate::report::repository_name;
-use crate::sources::{folder_source, git_source, shared_source, socket_source};
+use crate::sources::object_source;
 use eden_git::GitFault;
 use eden_history::{Counted, History, Kept};
 use eden_model::{Outside, World};
@@ -16,18 +17,21 @@ use eden_mount::Config;
 use eden_overlay::{Files, MemoryFiles};
 use eden_source::Source;
 use eden_stdio_life::{Backing, Base, live};
-use mountd_options::{HistoryOption, MountOptions, Objects};
+use mountd_options::{HistoryOption, MountOptions};
 use std::process::ExitCode;
 
 /// Serves one session over standard input and output.
 pub fn stdio(rt: &HostRuntime, mut options: MountOptions) -> ExitCode {
     match hold_overlay(rt, rt.alloc(), options.overlay.take()) {
         Err(fault) => report::unopened(rt, fault.name()),
-        Ok(None) => serve_files(rt, options, MemoryFiles::new(rt.alloc())),
+        Ok(None) => {
+            let files = MountFiles::Memory(MemoryFiles::new(rt.alloc()));
+            serve_files(rt, options, files)
+        }
         Ok(Some((folder, lock))) => {
             let status = match overlay_files(rt, folder) {
                 Err(fault) => report::unopened(rt, fault.name()),
-                Ok(files) => serve_files(rt, options, files),
+                Ok(files) => serve_files(rt, options, MountFiles::Kept(files)),
             };
             drop(lock);
             status
@@ -36,7 +40,7 @@ pub fn stdio(rt: &HostRuntime, mut options: MountOptions) -> ExitCode {
 }
 
 /// Serves a session over these files, with the objects that are asked for.
-fn serve_files<F: Files<Outside>>(rt: &HostRuntime, options: MountOptions, files: F) -> ExitCode {
+fn serve_files(rt: &HostRuntime, options: MountOptions, files: MountFiles) -> ExitCode {
     let MountOptions {
         root,
         objects,
@@ -49,24 +53,8 @@ fn serve_files<F: Files<Outside>>(rt: &HostRuntime, options: MountOptions, files
         root,
         opening: opening(rescan),
     };
-    match objects {
-        Objects::Folder(folder) => {
-            let source = folder_source(rt, folder);
-            run::<Outside, _, _>(rt, base, history, &limits, Backing { files, source })
-        }
-        Objects::Server(server) => {
-            let source = socket_source(rt, server);
-            run::<Outside, _, _>(rt, base, history, &limits, Backing { files, source })
-        }
-        Objects::Repository(repository) => {
-            let source = git_source(rt, repository);
-            run_opened::<Outside, _, _>(rt, base, history, &limits, files, source)
-        }
-        Objects::RepositoryAndServer(repository, server) => {
-            let source = shared_source(rt, repository, server);
-            run_opened::<Outside, _, _>(rt, base, history, &limits, files, source)
-        }
-    }
+    let source = object_source(rt, objects);
+    run_opened::<Outside, _, _>(rt, base, history, &limits, files, source)
 }
 
 /// Serves a session on a mount over these files, where its objects' repository could be opened.

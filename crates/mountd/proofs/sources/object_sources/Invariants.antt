@@ -1,5 +1,5 @@
 use Rattle.std.specs.Prelude.{◌≡◌, length}
-use Rattle.mountd.proofs.sources.socket_sources.Given as goal
+use Rattle.mountd.proofs.sources.object_sources.Given as goal
 
 -- the sources so far
 abbrev pub invariant-loop-made : goal.invariant-loop-made

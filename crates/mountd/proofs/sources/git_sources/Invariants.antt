@@ -1,6 +1,0 @@
-use Rattle.std.specs.Prelude.{◌≡◌, length}
-use Rattle.mountd.proofs.sources.git_sources.Given as goal
-
--- the sources so far
-abbrev pub invariant-loop-made : goal.invariant-loop-made
-invariant-loop-made l = length l.sources.items ≡ l._made
