@@ -1,19 +1,20 @@
 -- The directory whose body is kept, while files change.
 use Rattle.std.proofs.Common.{◌≡◌, ◌≢◌, ℕ, ◌==◌, ◌⊎◌, inl, inr, true, false, cond, List, Result, Ok, Err, OnOk, OnErr, Option, Some, None}
 use Rattle.std.proofs.Common.{refl, sym, ap, subst, ◌∙◌, arith, nat_lt, ◌^◌}
-use Rattle.std.specs.Option.{option_and_then, option_map}
+use Rattle.std.specs.Option.{is_some, option_and_then, option_map}
 use Rattle.std.proofs.lemmas.Bool.{eqb-true, eqb-false, ltb-true, ltb-false}
 use Rattle.std.proofs.lemmas.Option.{same_Some, none-some}
-use Rattle.eden_model.specs.Trees.{Name}
 use Rattle.eden_overlay_format.specs.declared.stored_entry.StoredEntry.{StoredEntry}
-use Rattle.eden_overlay_format.specs.Changing.{entries_with}
+use Rattle.eden_overlay_format.specs.Directory.{AreStorable}
 use Rattle.eden_overlay_format.specs.Values.{entries_in}
 use Rattle.eden_overlay.specs.declared.files.FilesFault.{FilesFault}
 use Rattle.eden_overlay.specs.declared.last_body.KeptBody.{KeptBody}
+use Rattle.eden_overlay.specs.Changing.{HasEntries, IsChanged, MayChange}
 use Rattle.eden_overlay.specs.Files.{Stored, put}
-use Rattle.eden_overlay.specs.Held.{HoldsEntries}
+use Rattle.eden_overlay.specs.Held.{HoldsEntries, with_entries}
 use Rattle.eden_overlay.specs.Keeping.{IsKeptLong, IsBodyKept, kept_but, kept_entries}
-use Rattle.eden_overlay.proofs.Puts.{put_apart}
+use Rattle.eden_overlay.specs.Soundness.{AreSound}
+use Rattle.eden_overlay.proofs.Puts.{one_held, put_apart}
 
 pub no_body : (F : Stored) → IsBodyKept F None
 unfolding IsBodyKept
@@ -78,9 +79,25 @@ body_with F G n long w es o left held there ok kept other = elim (kept_or_not lo
 ]
 
 -- what is made of a body that is kept is made of the entries that are held
-pub changed_from : (F : Stored) (k : ℕ) (n : Name) (o : Option StoredEntry) (body : List StoredEntry) (kept : Option KeptBody) (made : Option (List StoredEntry)) → IsBodyKept F kept
-    → made ≡ option_map (entries_with n o) (kept_entries k kept) → made ≡ Some body → (es : List StoredEntry) × (HoldsEntries F k es × (body ≡ entries_with n o es))
-changed_from F k n o body kept made held is some = of (kept_entries k kept) refl (sym is ∙ some) where
-  of : (l : Option (List StoredEntry)) → kept_entries k kept ≡ l → option_map (entries_with n o) l ≡ Some body → (es : List StoredEntry) × (HoldsEntries F k es × (body ≡ entries_with n o es))
-  of None at found = absurd (none-some body found)
-  of (Some es) at found = (es, (body_held F k es kept held at, sym (same_Some (entries_with n o es) body found)))
+module _ (F : Stored) (k : ℕ) (change : List StoredEntry → List StoredEntry) (body : List StoredEntry) (kept : Option KeptBody) (made : Option (List StoredEntry))
+    (held : IsBodyKept F kept) (is : made ≡ option_map change (kept_entries k kept)) (some : made ≡ Some body) where
+  from : (l : Option (List StoredEntry)) → kept_entries k kept ≡ l → option_map change l ≡ Some body → (es : List StoredEntry) × (HoldsEntries F k es × (body ≡ change es))
+  from None at found = absurd (none-some body found)
+  from (Some es) at found = (es, (body_held F k es kept held at, sym (same_Some (change es) body found)))
+
+  changed_from : (es : List StoredEntry) × (HoldsEntries F k es × (body ≡ change es))
+  changed_from = from (kept_entries k kept) refl (sym is ∙ some)
+
+  pub body_storable : MayChange F k change → AreStorable body
+  body_storable may = let (es, (there, same)) = changed_from in subst AreStorable (sym same) (may es there).storable
+
+  pub body_sound : MayChange F k change → AreSound (with_entries F k body)
+  body_sound may = let (es, (there, same)) = changed_from in
+      subst (λ (l : List StoredEntry). AreSound (with_entries F k l)) (sym same) (may es there).sound
+
+  pub body_changed : (G : Stored) → G ≡ with_entries F k body → IsChanged F k change G
+  body_changed G stored fs others = let (es, (there, same)) = changed_from in
+      stored ∙ ap (λ (l : List StoredEntry). with_entries F k l) (same ∙ ap change (one_held F k es fs there others))
+
+  pub body_there : HasEntries F k
+  body_there = let (es, (there, same)) = changed_from in ap is_some there

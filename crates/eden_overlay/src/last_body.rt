@@ -4,6 +4,7 @@ ghost use Rattle.std.specs.Prelude.{◌≡◌, None, Some, length, IfOk, IfSome}
 ghost use Rattle.std.specs.Option.{option_map};
 ghost use Rattle.eden_overlay_format.specs.Changing.{entries_with, entry_as};
 ghost use Rattle.eden_overlay_format.specs.Directory.{IsStorable, directory_body};
+ghost use Rattle.eden_overlay.specs.Changing.{entry_renamed};
 ghost use Rattle.eden_overlay.specs.Keeping.{IsKeptLong, kept_but, kept_entries};
 
 use crate::room::Room;
@@ -72,6 +73,30 @@ impl LastBody {
             }
             _ => Ok(None),
         }
+    }
+
+    /// The body of that directory with its entry of that name under another one, as the facts say, in place of any that
+    /// has it; None where its body isn't kept. What is kept stays. The only error is want of memory.
+    pub(crate) fn renamed(
+        &mut self,
+        alloc: Global,
+        number: u64,
+        name: &Name,
+        new_name: &Name,
+        facts: RowFacts,
+    ) -> Result<Option<DirectoryBody>, AllocError>
+        requires storable { IsStorable (entry_as new_name.now facts) }
+        ensures made { IfOk result (λ made. made ≡ option_map
+            (entry_renamed name.now (entry_as new_name.now facts)) (kept_entries number self.old.kept)) }
+        ensures same { self.new.kept ≡ self.old.kept }
+    {
+        let Some(both) = self.changed(alloc, number, new_name, Some(facts))? else {
+            return Ok(None);
+        };
+        let room = self.room.take(alloc);
+        let body = both.changed(room, name, None)?;
+        self.spare(both);
+        Ok(Some(body))
     }
 
     /// Keeps the body as that directory's, in place of any other. One that is too short or too long isn't kept: then

@@ -8,7 +8,7 @@ ghost use Rattle.eden_model.specs.Limits.{number_least, number_end};
 ghost use Rattle.eden_model.specs.Failures.{Counted};
 ghost use Rattle.eden_overlay_format.specs.declared.header.Identifier.TheVariants as identifier;
 ghost use Rattle.eden_overlay_format.specs.Content.{content_most};
-ghost use Rattle.eden_overlay_format.specs.Changing.{entry_as};
+ghost use Rattle.eden_overlay_format.specs.Changing.{entries_with, entry_as};
 ghost use Rattle.eden_overlay_format.specs.Directory.{AreStorable, IsStorable};
 ghost use Rattle.eden_overlay_format.specs.State.{IsGoodState};
 ghost use Rattle.eden_overlay_format.specs.Values.{content_in, state_in, entries_in};
@@ -21,7 +21,7 @@ ghost use Rattle.eden_overlay.specs.Tidying.{bytes_at};
 ghost use Rattle.eden_overlay.specs.Getting.{Explains, ExplainsLength, ExplainsNumbers, length_of, of_numbers};
 ghost use Rattle.std.specs.Option.{is_some, option_map};
 ghost use Rattle.eden_overlay_format.specs.Numbers.{none_is_own};
-ghost use Rattle.eden_overlay.specs.Changing.{HasEntries, IsChanged, MayChange};
+ghost use Rattle.eden_overlay.specs.Changing.{HasEntries, IsChanged, MayChange, entry_renamed};
 ghost use Rattle.eden_overlay.specs.Keeping.{AreKnownOf, IsBodyKept};
 ghost use Rattle.eden_overlay.specs.Files.{part};
 ghost use Rattle.eden_overlay.specs.declared.files.FilesFault.TheVariants as files;
@@ -63,9 +63,9 @@ const LARGE: usize = 1 << 20;
 /// is what its file holds.
 ///
 /// The body of the directory that was stored last stays in memory too, if it has from 256 bytes to 4 MiB, in room of up
-/// to twice that, so that `change_entry` needn't write its other entries anew. A shorter one isn't kept, and another
-/// directory's stays then. It goes once something else is stored as its file. Under an honest outside its entries are
-/// what its file holds.
+/// to twice that, so that `store_entry` and `store_renamed` needn't write its other entries anew. A shorter one isn't
+/// kept, and another directory's stays then. It goes once something else is stored as its file. Under an honest outside
+/// its entries are what its file holds.
 ///
 /// The room that a file was written in stays too, at most 1 MiB of it for contents and 4 MiB for directories: a store
 /// that needs no more takes no memory for its file.
@@ -219,7 +219,7 @@ impl<W: World, F: Files<W>> Overlay<W, F> {
 
     /// Stores a directory anew with this as its entry of that name, or without one of it, of the body that is kept in
     /// memory: true then. False where its body isn't kept: nothing has changed. After an error nothing has changed.
-    pub fn change_entry(
+    pub fn store_entry(
         &mut self,
         alloc: Global,
         number: u64,
@@ -227,15 +227,42 @@ impl<W: World, F: Files<W>> Overlay<W, F> {
         facts: Option<RowFacts>,
     ) -> Result<bool, FilesFault>
         requires storable { IfSome facts (λ f. IsStorable (entry_as name.now f)) }
-        requires sound { W.honest
-            → MayChange (F.stored self.old) number name.now (option_map (entry_as name.now) facts) }
-        ensures stored { W.honest → result ≡ Ok true → IsChanged (F.stored self.old) number name.now
-            (option_map (entry_as name.now) facts) (F.stored self.new) }
+        requires sound { W.honest → MayChange (F.stored self.old) number
+            (entries_with name.now (option_map (entry_as name.now) facts)) }
+        ensures stored { W.honest → result ≡ Ok true → IsChanged (F.stored self.old) number
+            (entries_with name.now (option_map (entry_as name.now) facts)) (F.stored self.new) }
         ensures held { W.honest → result ≡ Ok true → HasEntries (F.stored self.old) number }
         ensures kept { W.honest → result ≢ Ok true → F.stored self.new ≡ F.stored self.old }
         ensures counted { Counted (result ≡ Err files.Device) (F.failures self.old) (F.failures self.new) }
     {
         let Some(body) = self.last.changed(alloc, number, name, facts)? else {
+            return Ok(false);
+        };
+        self.put_body(alloc, number, body)?;
+        Ok(true)
+    }
+
+    /// Stores a directory anew with its entry of that name under another one, as the facts say, in place of any that
+    /// has it, of the body that is kept in memory: true then. It is one store. False where its body isn't kept: nothing
+    /// has changed. After an error nothing has changed.
+    pub fn store_renamed(
+        &mut self,
+        alloc: Global,
+        number: u64,
+        name: &Name,
+        new_name: &Name,
+        facts: RowFacts,
+    ) -> Result<bool, FilesFault>
+        requires storable { IsStorable (entry_as new_name.now facts) }
+        requires sound { W.honest → MayChange (F.stored self.old) number
+            (entry_renamed name.now (entry_as new_name.now facts)) }
+        ensures stored { W.honest → result ≡ Ok true → IsChanged (F.stored self.old) number
+            (entry_renamed name.now (entry_as new_name.now facts)) (F.stored self.new) }
+        ensures held { W.honest → result ≡ Ok true → HasEntries (F.stored self.old) number }
+        ensures kept { W.honest → result ≢ Ok true → F.stored self.new ≡ F.stored self.old }
+        ensures counted { Counted (result ≡ Err files.Device) (F.failures self.old) (F.failures self.new) }
+    {
+        let Some(body) = self.last.renamed(alloc, number, name, new_name, facts)? else {
             return Ok(false);
         };
         self.put_body(alloc, number, body)?;
