@@ -22,7 +22,7 @@ ghost use Rattle.eden_overlay.specs.Getting.{Explains, ExplainsLength, ExplainsN
 ghost use Rattle.std.specs.Option.{is_some, option_map};
 ghost use Rattle.eden_overlay_format.specs.Numbers.{none_is_own};
 ghost use Rattle.eden_overlay.specs.Changing.{HasEntries, IsChanged, MayChange, entry_renamed};
-ghost use Rattle.eden_overlay.specs.Keeping.{AreKnownOf, IsBodyKept};
+ghost use Rattle.eden_overlay.specs.Keeping.{AreBodiesKept, AreKnownOf};
 ghost use Rattle.eden_overlay.specs.Files.{part};
 ghost use Rattle.eden_overlay.specs.declared.files.FilesFault.TheVariants as files;
 ghost use Rattle.eden_overlay.specs.declared.fault.GetFault.TheVariants as get;
@@ -30,9 +30,9 @@ ghost use Rattle.eden_overlay.specs.declared.fault.GetFault.TheVariants as get;
 use crate::content::Content;
 use crate::fault::GetFault;
 use crate::files::{Files, FilesFault};
-use crate::last_body::LastBody;
 use crate::part::part_of;
 use crate::recent::Recent;
+use crate::recent_bodies::RecentBodies;
 use eden_model::{Id, Name, Obstacle, World};
 use eden_overlay_format::{
     DecodeFault, DirectoryBody, HEADER_LEN, Head, Identifier, Listing, Refusal, RowFacts, Spliced,
@@ -62,10 +62,10 @@ const LARGE: usize = 1 << 20;
 /// that its file holds a content is known then, so that its parts are read there. Under an honest outside each content
 /// is what its file holds.
 ///
-/// The body of the directory that was stored last stays in memory too, if it has from 256 bytes to 4 MiB, in room of up
-/// to twice that, so that `store_entry` and `store_renamed` needn't write its other entries anew. A shorter one isn't
-/// kept, and another directory's stays then. It goes once something else is stored as its file. Under an honest outside
-/// its entries are what its file holds.
+/// The bodies of the two directories that were stored last stay in memory too, of those that have from 256 bytes to
+/// 4 MiB, each in room of up to twice that, so that `store_entry` and `store_renamed` needn't write their other entries
+/// anew. A shorter one or a longer one isn't kept, and those of other directories stay then. A body goes once something
+/// else is stored as its file. Under an honest outside its entries are what its file holds.
 ///
 /// The room that a file was written in stays too, at most 1 MiB of it for contents and 4 MiB for directories: a store
 /// that needs no more takes no memory for its file.
@@ -73,7 +73,7 @@ const LARGE: usize = 1 << 20;
 pub struct Overlay<W: World, F: Files<W>> {
     files: F,
     recent: Recent,
-    last: LastBody,
+    bodies: RecentBodies,
     world: PhantomData<W>,
 }
 
@@ -83,7 +83,7 @@ impl<W: World, F: Files<W>> Model for Overlay<W, F> {
     ghost view = { λ o. o.files };
 
     ghost invariant = { λ o. W.honest → AreKnownOf (F.stored o.files) o.recent.kept.items o.recent.whole.items
-        × IsBodyKept (F.stored o.files) o.last.kept };
+        × AreBodiesKept (F.stored o.files) o.bodies.kept };
 }
 
 impl<W: World, F: Files<W>> Overlay<W, F> {
@@ -94,7 +94,7 @@ impl<W: World, F: Files<W>> Overlay<W, F> {
         Overlay {
             files,
             recent: Recent::new(alloc, 0),
-            last: LastBody::new(),
+            bodies: RecentBodies::new(),
             world: PhantomData,
         }
     }
@@ -147,7 +147,7 @@ impl<W: World, F: Files<W>> Overlay<W, F> {
                 return self.put_long(alloc, number, bytes);
             }
         }
-        self.last.release(number);
+        self.bodies.release(number);
         // First, so that memory never holds what is kept of the file beside the new one.
         let room = self.recent.room(alloc, number);
         let stored = Content::of_unsealed(encode_unsealed_in(room, content)?);
@@ -168,7 +168,7 @@ impl<W: World, F: Files<W>> Overlay<W, F> {
         ensures counted { Counted (result ≡ Err files.Device) (F.failures self.old) (F.failures self.new) }
     {
         self.recent.forget(number);
-        self.last.release(number);
+        self.bodies.release(number);
         self.files
             .replace_body(alloc, number, Identifier::File, content)?;
         self.recent.note_whole(number);
@@ -189,7 +189,7 @@ impl<W: World, F: Files<W>> Overlay<W, F> {
         ensures err { W.honest → OnErr result (F.stored self.new ≡ F.stored self.old) }
         ensures counted { Counted (result ≡ Err files.Device) (F.failures self.old) (F.failures self.new) }
     {
-        let listing = Listing::of(self.last.room(alloc), entries)?;
+        let listing = Listing::of(self.bodies.room(alloc), entries)?;
         self.put_listing(alloc, number, listing)
     }
 
@@ -197,7 +197,7 @@ impl<W: World, F: Files<W>> Overlay<W, F> {
     pub fn room(&mut self, alloc: Global) -> Vec<u8>
         ensures { self.new ≡ self.old }
     {
-        self.last.room(alloc)
+        self.bodies.room(alloc)
     }
 
     /// Stores a directory, whose entries are written already, as the file of that number, in place of any that was
@@ -235,7 +235,7 @@ impl<W: World, F: Files<W>> Overlay<W, F> {
         ensures kept { W.honest → result ≢ Ok true → F.stored self.new ≡ F.stored self.old }
         ensures counted { Counted (result ≡ Err files.Device) (F.failures self.old) (F.failures self.new) }
     {
-        let Some(body) = self.last.changed(alloc, number, name, facts)? else {
+        let Some(body) = self.bodies.changed(alloc, number, name, facts)? else {
             return Ok(false);
         };
         self.put_body(alloc, number, body)?;
@@ -262,7 +262,7 @@ impl<W: World, F: Files<W>> Overlay<W, F> {
         ensures kept { W.honest → result ≢ Ok true → F.stored self.new ≡ F.stored self.old }
         ensures counted { Counted (result ≡ Err files.Device) (F.failures self.old) (F.failures self.new) }
     {
-        let Some(body) = self.last.renamed(alloc, number, name, new_name, facts)? else {
+        let Some(body) = self.bodies.renamed(alloc, number, name, new_name, facts)? else {
             return Ok(false);
         };
         self.put_body(alloc, number, body)?;
@@ -288,11 +288,11 @@ impl<W: World, F: Files<W>> Overlay<W, F> {
             .replace_body(alloc, number, Identifier::Directory, body.bytes());
         match answer {
             Ok(()) => {
-                self.last.keep(number, body);
+                self.bodies.keep(number, body);
                 Ok(())
             }
             Err(fault) => {
-                self.last.spare(body);
+                self.bodies.spare(body);
                 Err(fault)
             }
         }
@@ -460,10 +460,10 @@ impl<W: World, F: Files<W>> Overlay<W, F> {
         ensures counted { Counted (result ≡ Err files.Device) (F.failures self.old) (F.failures self.new) }
     {
         self.recent.forget(number);
-        self.last.release(number);
+        self.bodies.release(number);
         let bytes = listing.into_numbers(tree)?;
         let answer = self.files.replace(alloc, number, &bytes);
-        self.last.room.keep(bytes);
+        self.bodies.room.keep(bytes);
         answer
     }
 
@@ -508,7 +508,7 @@ impl<W: World, F: Files<W>> Overlay<W, F> {
         ensures counted { Counted (result ≡ Err files.Device) (F.failures self.old) (F.failures self.new) }
     {
         self.recent.forget(number);
-        self.last.release(number);
+        self.bodies.release(number);
         self.files.remove(number)
     }
 
@@ -522,7 +522,7 @@ impl<W: World, F: Files<W>> Overlay<W, F> {
         ensures counted { Counted (result ≡ Err files.Device) (F.failures self.old) (F.failures self.new) }
     {
         self.recent.forget(STATE_NUMBER);
-        self.last.release(STATE_NUMBER);
+        self.bodies.release(STATE_NUMBER);
         let bytes = encode_state(alloc, state)?;
         self.files.replace(alloc, STATE_NUMBER, &bytes)
     }
@@ -550,7 +550,7 @@ impl<W: World, F: Files<W>> Overlay<W, F> {
         ensures counted { Counted (result ≡ Err files.Device) (F.failures self.old) (F.failures self.new) }
     {
         self.recent.forget(STATE_NUMBER);
-        self.last.release(STATE_NUMBER);
+        self.bodies.release(STATE_NUMBER);
         self.files.remove(STATE_NUMBER)
     }
 

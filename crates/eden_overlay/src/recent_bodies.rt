@@ -1,11 +1,12 @@
-//! The directory that was stored last, whose body stays in memory.
+//! The directories that were stored last, whose bodies stay in memory.
 
 ghost use Rattle.std.specs.Prelude.{◌≡◌, None, Some, length, IfOk, IfSome};
 ghost use Rattle.std.specs.Option.{option_map};
 ghost use Rattle.eden_overlay_format.specs.Changing.{entries_with, entry_as};
 ghost use Rattle.eden_overlay_format.specs.Directory.{IsStorable, directory_body};
 ghost use Rattle.eden_overlay.specs.Changing.{entry_renamed};
-ghost use Rattle.eden_overlay.specs.Keeping.{IsKeptLong, kept_but, kept_entries};
+ghost use Rattle.eden_overlay.specs.Keeping.{IsKeptLong, body_but, body_entries};
+ghost use Rattle.eden_overlay.specs.Keeping.{kept_but, kept_entries, kept_with};
 
 use crate::room::Room;
 use eden_model::Name;
@@ -26,21 +27,80 @@ pub(crate) struct KeptBody {
     pub(crate) body: DirectoryBody,
 }
 
-/// The body of the directory that was stored last, if it is kept.
+impl KeptBody {
+    // The body, if it is that directory's.
+    fn of(kept: &Option<KeptBody>, number: u64) -> Option<&DirectoryBody>
+        ensures { option_map (λ body. body.now) result ≡ body_entries number kept.now }
+    {
+        match kept {
+            Some(kept) if kept.number == number => Some(&kept.body),
+            _ => None,
+        }
+    }
+
+    // Takes the body out, if it is that directory's.
+    fn take(kept: &mut Option<KeptBody>, number: u64) -> Option<DirectoryBody>
+        ensures { kept.new ≡ body_but number kept.old }
+    {
+        match kept.take() {
+            Some(own) if own.number == number => Some(own.body),
+            other => {
+                *kept = other;
+                None
+            }
+        }
+    }
+}
+
+/// The bodies of two directories, as far as they are kept: who stores now in one and now in the other has both.
 #[derive(Drop)]
-pub(crate) struct LastBody {
-    pub(crate) kept: Option<KeptBody>,
+pub(crate) struct TwoBodies {
+    /// That of the directory that was stored last.
+    pub(crate) latest: Option<KeptBody>,
+    pub(crate) earlier: Option<KeptBody>,
+}
+
+impl TwoBodies {
+    // The body of that directory, if it is kept.
+    fn body_of(&self, number: u64) -> Option<&DirectoryBody>
+        ensures { option_map (λ body. body.now) result ≡ kept_entries number self.now }
+    {
+        match KeptBody::of(&self.latest, number) {
+            Some(body) => Some(body),
+            None => KeptBody::of(&self.earlier, number),
+        }
+    }
+
+    // Puts that one in as the latest. The one before the latest goes for it.
+    fn put(&mut self, kept: KeptBody) -> Option<KeptBody>
+        ensures { self.new ≡ kept_with kept self.old }
+    {
+        match self.latest.replace(kept) {
+            Some(before) => self.earlier.replace(before),
+            None => None,
+        }
+    }
+}
+
+/// The bodies of the directories that were stored last.
+#[derive(Drop)]
+pub(crate) struct RecentBodies {
+    pub(crate) kept: TwoBodies,
     /// The room that a directory's file was written in before.
     pub(crate) room: Room,
 }
 
-impl LastBody {
+impl RecentBodies {
     /// None yet. It takes no memory.
-    pub(crate) fn new() -> LastBody
-        ensures { result.kept ≡ None }
+    pub(crate) fn new() -> RecentBodies
+        ensures latest { result.kept.latest ≡ None }
+        ensures earlier { result.kept.earlier ≡ None }
     {
-        LastBody {
-            kept: None,
+        RecentBodies {
+            kept: TwoBodies {
+                latest: None,
+                earlier: None,
+            },
             room: Room::new(BODY_MOST),
         }
     }
@@ -66,13 +126,11 @@ impl LastBody {
             (entries_with name.now (option_map (entry_as name.now) facts)) (kept_entries number self.old.kept)) }
         ensures same { self.new.kept ≡ self.old.kept }
     {
-        match &self.kept {
-            Some(kept) if kept.number == number => {
-                let room = self.room.take(alloc);
-                Ok(Some(kept.body.changed(room, name, facts)?))
-            }
-            _ => Ok(None),
-        }
+        let Some(body) = self.kept.body_of(number) else {
+            return Ok(None);
+        };
+        let room = self.room.take(alloc);
+        Ok(Some(body.changed(room, name, facts)?))
     }
 
     /// The body of that directory with its entry of that name under another one, as the facts say, in place of any that
@@ -99,11 +157,11 @@ impl LastBody {
         Ok(Some(body))
     }
 
-    /// Keeps the body as that directory's, in place of any other. One that is too short or too long isn't kept: then
-    /// nothing of the directory is, and what is kept of another stays.
+    /// Keeps the body as that directory's, which is the latest then: beside it one body of another directory stays, the
+    /// later one. One that is too short or too long isn't kept: then none of the directory is, and others stay.
     pub(crate) fn keep(&mut self, number: u64, body: DirectoryBody)
         ensures kept { IsKeptLong (length (directory_body body))
-            → self.new.kept ≡ Some (record { number = number; body = body }) }
+            → self.new.kept ≡ kept_with (record { number = number; body = body }) (kept_but number self.old.kept) }
         ensures other { ¬ IsKeptLong (length (directory_body body)) → self.new.kept ≡ kept_but number self.old.kept }
     {
         self.release(number);
@@ -111,18 +169,20 @@ impl LastBody {
         if len < BODY_LEAST || len > BODY_MOST {
             return self.spare(body);
         }
-        if let Some(other) = self.kept.replace(KeptBody { number, body }) {
-            self.spare(other.body);
+        if let Some(gone) = self.kept.put(KeptBody { number, body }) {
+            self.spare(gone.body);
         }
     }
 
-    /// Drops the body of that directory, if it is kept; that of another stays.
+    /// Drops the body of that directory, if it is kept; those of others stay.
     pub(crate) fn release(&mut self, number: u64)
         ensures { self.new.kept ≡ kept_but number self.old.kept }
     {
-        match self.kept.take() {
-            Some(kept) if kept.number == number => self.spare(kept.body),
-            other => self.kept = other,
+        if let Some(body) = KeptBody::take(&mut self.kept.latest, number) {
+            self.spare(body);
+        }
+        if let Some(body) = KeptBody::take(&mut self.kept.earlier, number) {
+            self.spare(body);
         }
     }
 
