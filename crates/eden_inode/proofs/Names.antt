@@ -7,13 +7,13 @@ use Rattle.std.specs.Str.{bytes_eq}
 use Rattle.eden_model.specs.declared.kind.Origin.{Origin}
 use Rattle.eden_model.specs.Named.{AreRising}
 use Rattle.eden_model.specs.Trees.{Name, Path}
-use Rattle.eden_tree.specs.Directory.{Row, Directory, child_of, with_child, change_child, change_rows}
+use Rattle.eden_tree.specs.Directory.{Row, Directory, child_of, with_child, change_child}
 use Rattle.eden_tree.specs.Rows.{find_row, change_row}
 use Rattle.eden_tree.specs.Paths.{row_at, edit_row, stamped_along}
 use Rattle.eden_tree.proofs.CallerLemmas.{same-≡, same-refl, child_of-change_child, keys_of-change_row, find_row-change_row}
 use Rattle.eden_tree.proofs.CallerLemmas.{find_row-slice_get, set_at-set_row, steps_down, row_at-unloaded, row_at-absent}
 use Rattle.eden_coupling.specs.Loading.{IsAt, with_loaded}
-use Rattle.eden_inode.specs.Trails.{Stands, Leads, names_at, KeepsNames, Pins}
+use Rattle.eden_inode.specs.Trails.{Leads, names_at, KeepsNames, Pins}
 use Rattle.eden_inode.proofs.Rows.{same_some, none_some}
 
 -- ---- one position

@@ -1,10 +1,9 @@
 -- What each call of a table keeps of noted places.
-use Rattle.std.proofs.Common.{◌≡◌, ◌≤◌, ◌<◌, ◌+◌, ◌-◌, ◌^◌, ℕ, min, refl, sym, ◌∙◌, subst, arith}
+use Rattle.std.proofs.Common.{◌≡◌, ℕ, refl, sym, ◌∙◌, subst, arith}
 use Rattle.eden_overlay.specs.Files.{Stored}
 use Rattle.eden_tree.specs.Directory.{Row}
 use Rattle.eden_coupling.specs.NumberUnloads.{UnloadsAway, none, one_more, same_files}
-use Rattle.eden_inode.specs.Tables.{Table}
-use Rattle.eden_inode.specs.Trails.{KeepsNames, KeepsPlaces, SameKeepsPlaces, PlacesGoOn, RiseKeepsPlaces, UnloadsKeepPlaces}
+use Rattle.eden_inode.specs.Trails.{KeepsNames, SameKeepsPlaces, PlacesGoOn, RiseKeepsPlaces, UnloadsKeepPlaces}
 use Rattle.eden_inode.proofs.Names.{keeps_same, keeps_then}
 
 pub places_same : {F : Type 0} → SameKeepsPlaces F

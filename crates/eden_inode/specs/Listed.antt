@@ -31,3 +31,8 @@ origin_as (Owned name) n o = Some (if bytes_eq name.now n then origin.Own else o
 -- file k holds other entries than these in the one of that name alone
 abbrev pub DiffersAt : Name → Stored → ℕ → List StoredEntry → Type 0
 DiffersAt n F k es = (old : List StoredEntry) × HoldsEntries F k old × (entries_with n (named (λ e. e.name) n es) old ≡ es)
+
+-- .. or in the ones of these two names alone, and of the first they have none
+abbrev pub RenamesAt : Name → Name → Stored → ℕ → List StoredEntry → Type 0
+RenamesAt n m F k es =
+    (old : List StoredEntry) × HoldsEntries F k old × (entries_with n None (entries_with m (named (λ e. e.name) m es) old) ≡ es)

@@ -20,7 +20,7 @@ mod unload;
 pub use gone::Gone;
 pub use inodes::Inodes;
 pub use laws::place_laws;
-pub use listing::{Listed, save, save_changed, write_listing};
+pub use listing::{Listed, save, save_changed, save_renamed, write_listing};
 pub use seen::Seen;
 pub use trail::Trail;
 pub use unload::has_none_inside;

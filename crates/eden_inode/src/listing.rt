@@ -1,6 +1,6 @@
 //! Loaded directories as stored ones.
 
-ghost use Rattle.std.specs.Prelude.{◌≡◌, Err, IfOk, OnOk, OnErr};
+ghost use Rattle.std.specs.Prelude.{◌≡◌, Err, None, IfOk, OnOk, OnErr};
 ghost use Rattle.std.specs.Option.{option_map};
 ghost use Rattle.eden_model.specs.Failures.{Counted};
 ghost use Rattle.eden_model.specs.Named.{AreRising, named};
@@ -9,7 +9,9 @@ ghost use Rattle.eden_overlay_format.specs.Directory.{AreStorable};
 ghost use Rattle.eden_overlay.specs.Held.{with_entries};
 ghost use Rattle.eden_overlay.specs.Soundness.{AreSound};
 ghost use Rattle.eden_overlay.specs.declared.files.FilesFault.TheVariants as files;
-ghost use Rattle.eden_inode.specs.Listed.{DiffersAt, listed_as, origin_as};
+ghost use Rattle.eden_coupling.specs.Listings.{listing_of};
+ghost use Rattle.eden_coupling.specs.Changing.{changed};
+ghost use Rattle.eden_inode.specs.Listed.{DiffersAt, RenamesAt, listed_as, origin_as};
 
 use eden_model::{Name, Origin, World};
 use eden_overlay::{Files, FilesFault, Overlay};
@@ -129,8 +131,39 @@ pub fn save_changed<A: Allocator, W: World, F: Files<W>>(
     ensures counted { Counted (result ≡ Err files.Device) (F.failures overlay.old) (F.failures overlay.new) }
 {
     let facts = facts_in(dir, listed, name);
-    if overlay.change_entry(alloc, number, name, facts)? {
+    if overlay.store_entry(alloc, number, name, facts)? {
         return Ok(());
+    }
+    save(alloc, overlay, number, dir, listed)
+}
+
+/// Stores a directory without the entry of a name as the file of that number, which holds other entries in the ones of
+/// that name and the new one alone: so no other is written anew where the overlay keeps the file's body. After an error
+/// nothing has changed.
+pub fn save_renamed<A: Allocator, W: World, F: Files<W>>(
+    alloc: Global,
+    overlay: &mut Overlay<W, F>,
+    number: u64,
+    dir: &Dir<A>,
+    name: &Name,
+    new_name: &Name,
+) -> Result<(), FilesFault>
+    requires entries { AreStorable (listing_of (changed dir.now name.now None)) }
+    requires renames { W.honest
+        → RenamesAt name.now new_name.now (F.stored overlay.old) number (listing_of (changed dir.now name.now None)) }
+    requires sound { W.honest
+        → AreSound (with_entries (F.stored overlay.old) number (listing_of (changed dir.now name.now None))) }
+    ensures ok { W.honest
+        → OnOk result (F.stored overlay.new ≡ with_entries (F.stored overlay.old) number
+        (listing_of (changed dir.now name.now None))) }
+    ensures err { W.honest → OnErr result (F.stored overlay.new ≡ F.stored overlay.old) }
+    ensures counted { Counted (result ≡ Err files.Device) (F.failures overlay.old) (F.failures overlay.new) }
+{
+    let listed = Listed::Without(name);
+    if let Some(facts) = facts_in(dir, listed, new_name) {
+        if overlay.store_renamed(alloc, number, name, new_name, facts)? {
+            return Ok(());
+        }
     }
     save(alloc, overlay, number, dir, listed)
 }

@@ -1,9 +1,10 @@
 -- A directory of which one entry changes, as it is stored.
-use Rattle.std.proofs.Common.{◌≡◌, true, false, cond, List, [], ◌∷◌, map, Option, IfSome, Some, None, refl, sym, ap, ◌∙◌, subst}
+use Rattle.std.proofs.Common.{◌≡◌, ℕ, true, false, cond, List, [], ◌∷◌, map, Option, IfSome, Some, None, refl, sym, ap, ◌∙◌, subst}
 use Rattle.std.specs.declared.cmp.Ordering.TheVariants.{Less}
 use Rattle.std.specs.Ordering.{is_lt}
 use Rattle.std.specs.Str.{bytes_eq}
 use Rattle.std.specs.List.{AllByRecursion}
+use Rattle.std.specs.List.Sorted.{IsStrictlySortedBy}
 use Rattle.std.specs.Cmp.Lexicographic.{nat_list_cmp_total}
 use Rattle.std.specs.Map.{keys_of}
 use Rattle.std.specs.Option.{option_map}
@@ -22,12 +23,13 @@ use Rattle.eden_overlay.specs.Held.{HoldsEntries}
 use Rattle.eden_tree.specs.Directory.{Row, Directory}
 use Rattle.eden_tree.specs.Rows.{find_row, put_row, drop_row, set_row}
 use Rattle.eden_tree.proofs.CallerLemmas.{order, same-≡, same-refl, same-less, lt-less, lt-≡, beyond, same-sym, IsBelow, first_below, others, drop_row-absent, find_row-put_row, find_row-set_row}
+use Rattle.eden_tree.proofs.CallerLemmas.{find_row-drop_row, AreRising-put_row, change_row-found, keys_of-change_row}
 use Rattle.eden_coupling.specs.Changing.{changed, placed, rows_with, with_listing}
 use Rattle.eden_coupling.specs.Listings.{Place, stored_entry, listing_of}
-use Rattle.eden_coupling.specs.Ties.{IsStoredAs}
+use Rattle.eden_coupling.specs.Ties.{Ties}
 use Rattle.eden_coupling.proofs.CallerLemmas.{gone_after, stored_rising, place_at}
 use Rattle.eden_inode.specs.Listed.{DiffersAt}
-use Rattle.eden_materialise.specs.Chains.{IsOwnAndSaved}
+use Rattle.eden_materialise.specs.Chains.{IsOwnAndSaved, IsListedIfSaved}
 use Rattle.eden_materialise.specs.Listings.{IsHeldFor}
 use Rattle.eden_materialise.specs.Puts.{AtDirectory}
 use Rattle.eden_materialise.proofs.Listings.{drop_differs, put_differs}
@@ -134,12 +136,38 @@ module _ (n : Name) where
   one_changed o d rising =
       ap (λ e. entries_with n e (listing_of d)) (found o (rows_with n o d.rows) (then_found o d.rows rising)) ∙ with_one o d.rows rising
 
+  rising_placed : (x : Row) (o : Option Row) (rows : List (Name × Row)) → AreRising (λ r. r.0) rows → find_row n rows ≡ o → AreRising (λ r. r.0) (placed o n x rows)
+  rising_placed x None rows rising h = AreRising-put_row n x rows h rising
+  rising_placed x (Some w) rows rising h =
+      subst (λ (r : List (Name × Row)). AreRising (λ r. r.0) r) (change_row-found n (λ _. x) w rows h) (subst (IsStrictlySortedBy order) (sym (keys_of-change_row n (λ _. x) rows)) rising)
+
+-- an entry renamed within one directory: put under its new name m, and taken from the old one
+module _ (n m : Name) (x : Row) (d : Directory) (rising : AreRising (λ r. r.0) d.rows) (differ : bytes_eq m n ≡ false) where
+  abbrev both : Directory
+  both = changed d m (Some x)
+
+  rising_both : AreRising (λ r. r.0) both.rows
+  rising_both = rising_placed m x (find_row m d.rows) d.rows rising refl
+
+  new_there : find_row m (changed both n None).rows ≡ Some x
+  new_there = find_row-drop_row m n both.rows rising_both ∙ ap (λ b. cond b None (find_row m both.rows)) differ ∙ then_found m (Some x) d.rows rising
+
+  pub one_renamed : entries_with n None (entries_with m (named (λ (e : StoredEntry). e.name) m (listing_of (changed both n None))) (listing_of d)) ≡ listing_of (changed both n None)
+  one_renamed =
+      ap (λ e. entries_with n None (entries_with m e (listing_of d))) (found m (Some x) (changed both n None).rows new_there)
+      ∙ ap (entries_with n None) (with_one m (Some x) d.rows rising) ∙ with_one n None both.rows rising_both
+
 -- ---- the file of a directory of the mount's own, saved
 
 own_is : (o : Origin) → is_own o ≡ true → o ≡ origin.Own
 own_is (origin.Object id) h = absurd cc
 own_is origin.Own h = refl
 own_is origin.Empty h = absurd cc
+
+pub listed_if_saved : (F full : Stored) (x : Row) (next : ℕ) → Ties F full x next → (p : Path) → AtDirectory p x (IsListedIfSaved F)
+listed_if_saved F full x next t p y d at h is =
+    let file = t.stored y d (place_at p x y at) h (own_is y.origin is.0) in
+    subst (HoldsEntries F y.number) (file.all is.1) file.held
 
 module _ (honest : Type 0) (R : Repository) (F : Stored) (x : Row) (p : Path) (n : Name) (o : Option Row) (held : IsHeldFor honest R F x p n o)
     (own : is_own held.may.row.origin ≡ true) (saved : held.may.directory.unsaved ≡ false) (h : honest) where
@@ -152,11 +180,8 @@ module _ (honest : Type 0) (R : Repository) (F : Stored) (x : Row) (p : Path) (n
   place : Place x y
   place = place_at p x y held.may.at
 
-  stored_as : IsStoredAs F y.number d
-  stored_as = (held.kept h).ties.stored y d place held.may.holds (own_is y.origin own)
-
   was_listed : HoldsEntries F y.number (listing_of d)
-  was_listed = subst (HoldsEntries F y.number) (stored_as.all saved) stored_as.held
+  was_listed = let k = held.kept h in listed_if_saved F k.full x held.next k.ties p y d held.may.at held.may.holds (own, saved)
 
   -- .. holds what it is to hold but for that entry
   differs : DiffersAt n F y.number (listing_of (changed d n o))

@@ -1,18 +1,22 @@
 -- An entry renamed within one directory: put under its new name, and taken from the old one.
-use Rattle.std.proofs.Common.{◌≡◌, ◌≢◌, ℕ, Bool, true, false, cond, ◌==◌, List, Option, Some, None, refl, sym, ap, ◌∙◌}
+use Rattle.std.proofs.Common.{◌≡◌, ◌≢◌, ℕ, Bool, true, false, cond, ◌==◌, List, Option, Some, None, IfSome, refl, sym, ap, ◌∙◌, subst}
 use Rattle.std.proofs.Math.Path.{fun_ext}
 use Rattle.std.specs.Option.{option_map}
 use Rattle.std.proofs.lemmas.Option.{same_Some}
 use Rattle.eden_model.specs.Trees.{Name, Path}
 use Rattle.eden_model.specs.Named.{AreRising}
 use Rattle.eden_overlay.specs.Files.{Stored, put}
-use Rattle.eden_overlay.specs.Held.{with_entries}
+use Rattle.eden_overlay.specs.Held.{HoldsEntries, with_entries}
 use Rattle.eden_tree.specs.Directory.{Row, Directory, child_of, with_child}
 use Rattle.eden_tree.specs.Paths.{row_at, edit_row}
-use Rattle.eden_tree.proofs.CallerLemmas.{same-≢, child_of-with_child, edits_there, edits_twice, edits_alike}
+use Rattle.eden_tree.proofs.CallerLemmas.{same-≢, same-sym, child_of-with_child, edits_there, edits_twice, edits_alike}
 use Rattle.eden_coupling.specs.Listings.{listing_of}
 use Rattle.eden_coupling.specs.Changing.{MayMove, changed, moved_in, files_moved}
+use Rattle.eden_inode.specs.Listed.{RenamesAt}
+use Rattle.eden_materialise.specs.Chains.{IsOwnAndSaved, IsListedIfSaved}
 use Rattle.eden_materialise.specs.Moves.{changed_in, IsPutAt}
+use Rattle.eden_materialise.specs.Puts.{AtDirectory}
+use Rattle.eden_materialise.proofs.OneChange.{one_renamed}
 use Rattle.eden_materialise.proofs.Order.{changed_held}
 use Rattle.eden_materialise.proofs.Putting.{put_there}
 use Rattle.eden_materialise.proofs.Swapped.{drop_placed}
@@ -77,6 +81,24 @@ module _ (x : Row) (p : Path) (n m : Name) (may : MayMove x p n p m) (rising : A
         ap (λ k. with_entries F k (listing_of (changed d n None))) (stored_number y at) ∙ ap (with_entries F may.from.number) (stored_listing y d at h)
         ∙ sym (put_twice F may.from.number _ _)
         ∙ ap (λ k. with_entries (with_entries F may.from.number (listing_of left)) k (listing_of new)) (ap (λ (a : Row). a.number) (sym to_is))
+
+    -- .. in two names its file differs from that, where it is told of such a directory
+    both_there : (y : Row) (d : Directory) → row_at p z ≡ Some y → child_of y ≡ Some d → d ≡ changed may.source m (Some may.entry)
+    both_there y d at h = same_Some d with_both (sym h ∙ ap child_of (sym (after_at y at)) ∙ holds_both) ∙ with_both_is
+
+    two_differ : (F : Stored) → AtDirectory p x (IsListedIfSaved F) → AtDirectory p x IsOwnAndSaved
+        → AtDirectory p z (λ y d. RenamesAt n m F y.number (listing_of (changed d n None)))
+    two_differ F listed saved y d at h =
+        let held : HoldsEntries F may.from.number (listing_of may.source) = listed may.from may.source may.at_from may.holds_source (saved may.from may.source may.at_from may.holds_source) in
+        subst (λ (k : ℕ). RenamesAt n m F k (listing_of (changed d n None))) (sym (stored_number y at))
+        (subst (λ (e : Directory). RenamesAt n m F may.from.number (listing_of (changed e n None))) (sym (both_there y d at h))
+        (listing_of may.source, held, one_renamed n m may.entry may.source rising (same-sym n m (same-≢ n m differ))))
+
+    pub two_told : {T : Type 0} (view : T → Name) (a : Option T) (F : Stored) → AtDirectory p x (IsListedIfSaved F) → IfSome a (λ t. (view t ≡ m) × AtDirectory p x IsOwnAndSaved)
+        → IfSome a (λ t. AtDirectory p z (λ y d. RenamesAt n (view t) F y.number (listing_of (changed d n None))))
+    two_told view None F listed told = tt
+    two_told view (Some t) F listed told =
+        subst (λ (k : Name). AtDirectory p z (λ y d. RenamesAt n k F y.number (listing_of (changed d n None)))) (sym told.0) (two_differ F listed told.1)
 
     -- memory then
     pub renamed : edit_row p (changed_in n None) z ≡ moved_in x p n p m may

@@ -6,7 +6,7 @@ use Rattle.eden_model.specs.Trees.{Name, Path}
 use Rattle.eden_overlay_format.specs.declared.stored_entry.StoredEntry.{StoredEntry}
 use Rattle.eden_overlay_format.specs.Directory.{is_own}
 use Rattle.eden_overlay.specs.Files.{Stored}
-use Rattle.eden_overlay.specs.Held.{with_entries}
+use Rattle.eden_overlay.specs.Held.{HoldsEntries, with_entries}
 use Rattle.eden_overlay.specs.Soundness.{AreSound}
 use Rattle.eden_tree.specs.Directory.{Row, Directory}
 use Rattle.eden_coupling.specs.Chains.{IsAboveOther, Above, Unfinished, Refused}
@@ -26,6 +26,10 @@ lowest_of (Some l) y d = Some (listed_as l d)
 -- a directory of the mount's own that isn't marked unsaved
 abbrev pub IsOwnAndSaved : Row → Directory → Type 0
 IsOwnAndSaved y d = (is_own y.origin ≡ true) × (d.unsaved ≡ false)
+
+-- if the directory is such a one, its file lists it
+abbrev pub IsListedIfSaved : Stored → Row → Directory → Type 0
+IsListedIfSaved F y d = IsOwnAndSaved y d → HoldsEntries F y.number (listing_of d)
 
 -- file k with those entries, where there are any
 abbrev pub with_lowest : Stored → ℕ → Option (List StoredEntry) → Stored

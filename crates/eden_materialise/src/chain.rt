@@ -68,7 +68,7 @@ pub(crate) fn differing<'a, A: Allocator>(
 
 /// Stores the directory at a path so, or where it isn't told how, whole, unless it is its own already. Where its file
 /// differs from that in the entry of a name alone, that name is told.
-fn store_lowest<A: Allocator, W: World, F: Files<W>>(
+pub(crate) fn store_lowest<A: Allocator, W: World, F: Files<W>>(
     alloc: Global,
     root: &Entry<A>,
     overlay: &mut Overlay<W, F>,

@@ -2,8 +2,10 @@
 use Rattle.std.specs.Prelude.{ℕ, ◌≡◌, ◌≤◌, ◌<◌, ◌==◌, ◌+◌, ◌++◌, ◌^◌, ◌⊎◌, Bool, true, not, List, [], ◌∷◌, find, filter, length}
 use Rattle.std.specs.Prelude.{Option, Some, None, option_map, IsSome, if◌then◌else◌}
 use Rattle.std.specs.List.{list_any}
+use Rattle.std.specs.Option.{option_or}
 use Rattle.eden_overlay_format.specs.declared.stored_entry.StoredEntry.{StoredEntry}
-use Rattle.eden_overlay.specs.declared.last_body.KeptBody.{KeptBody}
+use Rattle.eden_overlay.specs.declared.recent_bodies.KeptBody.{KeptBody}
+use Rattle.eden_overlay.specs.declared.recent_bodies.TwoBodies.{TwoBodies}
 use Rattle.eden_overlay.specs.declared.recent.Kept.{Kept}
 use Rattle.eden_overlay.specs.Files.{Stored}
 use Rattle.eden_overlay.specs.Held.{HoldsContent, HoldsEntries, content_at}
@@ -77,22 +79,38 @@ AddsOne number old new = (k : ℕ) → is_one_of k new ≡ true → (k ≡ numbe
 abbrev pub AreKnownOf : Stored → List Kept → List ℕ → Type 0
 AreKnownOf F kept numbers = AreKeptOf F kept × AreWhole F numbers
 
--- ---- the directory whose body is kept
+-- ---- the directories whose bodies are kept
 
--- its entries are those that its file holds
+-- the entries of a body are those that its file holds
 unfoldable pub IsBodyKept : Stored → Option KeptBody → Type 0
 IsBodyKept F None = Unit {0}
 IsBodyKept F (Some k) = HoldsEntries F k.number k.body
 
--- the entries of that directory, if its body is kept
-abbrev pub kept_entries : ℕ → Option KeptBody → Option (List StoredEntry)
-kept_entries number None = None
-kept_entries number (Some k) = if k.number == number then Some k.body else None
+-- .. of each of two
+abbrev pub AreBodiesKept : Stored → TwoBodies → Type 0
+AreBodiesKept F two = IsBodyKept F two.latest × IsBodyKept F two.earlier
 
--- what is kept of another
-abbrev pub kept_but : ℕ → Option KeptBody → Option KeptBody
-kept_but number None = None
-kept_but number (Some k) = if k.number == number then None else Some k
+-- the entries of that directory, if this is its body
+abbrev pub body_entries : ℕ → Option KeptBody → Option (List StoredEntry)
+body_entries number None = None
+body_entries number (Some k) = if k.number == number then Some k.body else None
+
+-- .. if one of the two is
+abbrev pub kept_entries : ℕ → TwoBodies → Option (List StoredEntry)
+kept_entries number two = option_or (body_entries number two.latest) (body_entries number two.earlier)
+
+-- the body, if it is of another directory
+abbrev pub body_but : ℕ → Option KeptBody → Option KeptBody
+body_but number None = None
+body_but number (Some k) = if k.number == number then None else Some k
+
+-- .. those of others
+abbrev pub kept_but : ℕ → TwoBodies → TwoBodies
+kept_but number two = record { latest = body_but number two.latest; earlier = body_but number two.earlier }
+
+-- with this as the latest, and beside it the later one of the two
+abbrev pub kept_with : KeptBody → TwoBodies → TwoBodies
+kept_with k two = record { latest = Some k; earlier = option_or two.latest two.earlier }
 
 -- a body of so many bytes is kept: from 256 bytes to 4 MiB
 abbrev pub IsKeptLong : ℕ → Type 0

@@ -8,7 +8,7 @@ ghost use Rattle.eden_model.specs.Limits.{number_least, number_end};
 ghost use Rattle.eden_model.specs.Failures.{Counted};
 ghost use Rattle.eden_overlay_format.specs.declared.header.Identifier.TheVariants as identifier;
 ghost use Rattle.eden_overlay_format.specs.Content.{content_most};
-ghost use Rattle.eden_overlay_format.specs.Changing.{entry_as};
+ghost use Rattle.eden_overlay_format.specs.Changing.{entries_with, entry_as};
 ghost use Rattle.eden_overlay_format.specs.Directory.{AreStorable, IsStorable};
 ghost use Rattle.eden_overlay_format.specs.State.{IsGoodState};
 ghost use Rattle.eden_overlay_format.specs.Values.{content_in, state_in, entries_in};
@@ -21,8 +21,8 @@ ghost use Rattle.eden_overlay.specs.Tidying.{bytes_at};
 ghost use Rattle.eden_overlay.specs.Getting.{Explains, ExplainsLength, ExplainsNumbers, length_of, of_numbers};
 ghost use Rattle.std.specs.Option.{is_some, option_map};
 ghost use Rattle.eden_overlay_format.specs.Numbers.{none_is_own};
-ghost use Rattle.eden_overlay.specs.Changing.{HasEntries, IsChanged, MayChange};
-ghost use Rattle.eden_overlay.specs.Keeping.{AreKnownOf, IsBodyKept};
+ghost use Rattle.eden_overlay.specs.Changing.{HasEntries, IsChanged, MayChange, entry_renamed};
+ghost use Rattle.eden_overlay.specs.Keeping.{AreBodiesKept, AreKnownOf};
 ghost use Rattle.eden_overlay.specs.Files.{part};
 ghost use Rattle.eden_overlay.specs.declared.files.FilesFault.TheVariants as files;
 ghost use Rattle.eden_overlay.specs.declared.fault.GetFault.TheVariants as get;
@@ -30,9 +30,9 @@ ghost use Rattle.eden_overlay.specs.declared.fault.GetFault.TheVariants as get;
 use crate::content::Content;
 use crate::fault::GetFault;
 use crate::files::{Files, FilesFault};
-use crate::last_body::LastBody;
 use crate::part::part_of;
 use crate::recent::Recent;
+use crate::recent_bodies::RecentBodies;
 use eden_model::{Id, Name, Obstacle, World};
 use eden_overlay_format::{
     DecodeFault, DirectoryBody, HEADER_LEN, Head, Identifier, Listing, Refusal, RowFacts, Spliced,
@@ -62,10 +62,10 @@ const LARGE: usize = 1 << 20;
 /// that its file holds a content is known then, so that its parts are read there. Under an honest outside each content
 /// is what its file holds.
 ///
-/// The body of the directory that was stored last stays in memory too, if it has from 256 bytes to 4 MiB, in room of up
-/// to twice that, so that `change_entry` needn't write its other entries anew. A shorter one isn't kept, and another
-/// directory's stays then. It goes once something else is stored as its file. Under an honest outside its entries are
-/// what its file holds.
+/// The bodies of the two directories that were stored last stay in memory too, of those that have from 256 bytes to
+/// 4 MiB, each in room of up to twice that, so that `store_entry` and `store_renamed` needn't write their other entries
+/// anew. A shorter one or a longer one isn't kept, and those of other directories stay then. A body goes once something
+/// else is stored as its file. Under an honest outside its entries are what its file holds.
 ///
 /// The room that a file was written in stays too, at most 1 MiB of it for contents and 4 MiB for directories: a store
 /// that needs no more takes no memory for its file.
@@ -73,7 +73,7 @@ const LARGE: usize = 1 << 20;
 pub struct Overlay<W: World, F: Files<W>> {
     files: F,
     recent: Recent,
-    last: LastBody,
+    bodies: RecentBodies,
     world: PhantomData<W>,
 }
 
@@ -83,7 +83,7 @@ impl<W: World, F: Files<W>> Model for Overlay<W, F> {
     ghost view = { λ o. o.files };
 
     ghost invariant = { λ o. W.honest → AreKnownOf (F.stored o.files) o.recent.kept.items o.recent.whole.items
-        × IsBodyKept (F.stored o.files) o.last.kept };
+        × AreBodiesKept (F.stored o.files) o.bodies.kept };
 }
 
 impl<W: World, F: Files<W>> Overlay<W, F> {
@@ -94,7 +94,7 @@ impl<W: World, F: Files<W>> Overlay<W, F> {
         Overlay {
             files,
             recent: Recent::new(alloc, 0),
-            last: LastBody::new(),
+            bodies: RecentBodies::new(),
             world: PhantomData,
         }
     }
@@ -147,7 +147,7 @@ impl<W: World, F: Files<W>> Overlay<W, F> {
                 return self.put_long(alloc, number, bytes);
             }
         }
-        self.last.release(number);
+        self.bodies.release(number);
         // First, so that memory never holds what is kept of the file beside the new one.
         let room = self.recent.room(alloc, number);
         let stored = Content::of_unsealed(encode_unsealed_in(room, content)?);
@@ -168,7 +168,7 @@ impl<W: World, F: Files<W>> Overlay<W, F> {
         ensures counted { Counted (result ≡ Err files.Device) (F.failures self.old) (F.failures self.new) }
     {
         self.recent.forget(number);
-        self.last.release(number);
+        self.bodies.release(number);
         self.files
             .replace_body(alloc, number, Identifier::File, content)?;
         self.recent.note_whole(number);
@@ -189,7 +189,7 @@ impl<W: World, F: Files<W>> Overlay<W, F> {
         ensures err { W.honest → OnErr result (F.stored self.new ≡ F.stored self.old) }
         ensures counted { Counted (result ≡ Err files.Device) (F.failures self.old) (F.failures self.new) }
     {
-        let listing = Listing::of(self.last.room(alloc), entries)?;
+        let listing = Listing::of(self.bodies.room(alloc), entries)?;
         self.put_listing(alloc, number, listing)
     }
 
@@ -197,7 +197,7 @@ impl<W: World, F: Files<W>> Overlay<W, F> {
     pub fn room(&mut self, alloc: Global) -> Vec<u8>
         ensures { self.new ≡ self.old }
     {
-        self.last.room(alloc)
+        self.bodies.room(alloc)
     }
 
     /// Stores a directory, whose entries are written already, as the file of that number, in place of any that was
@@ -219,7 +219,7 @@ impl<W: World, F: Files<W>> Overlay<W, F> {
 
     /// Stores a directory anew with this as its entry of that name, or without one of it, of the body that is kept in
     /// memory: true then. False where its body isn't kept: nothing has changed. After an error nothing has changed.
-    pub fn change_entry(
+    pub fn store_entry(
         &mut self,
         alloc: Global,
         number: u64,
@@ -227,15 +227,42 @@ impl<W: World, F: Files<W>> Overlay<W, F> {
         facts: Option<RowFacts>,
     ) -> Result<bool, FilesFault>
         requires storable { IfSome facts (λ f. IsStorable (entry_as name.now f)) }
-        requires sound { W.honest
-            → MayChange (F.stored self.old) number name.now (option_map (entry_as name.now) facts) }
-        ensures stored { W.honest → result ≡ Ok true → IsChanged (F.stored self.old) number name.now
-            (option_map (entry_as name.now) facts) (F.stored self.new) }
+        requires sound { W.honest → MayChange (F.stored self.old) number
+            (entries_with name.now (option_map (entry_as name.now) facts)) }
+        ensures stored { W.honest → result ≡ Ok true → IsChanged (F.stored self.old) number
+            (entries_with name.now (option_map (entry_as name.now) facts)) (F.stored self.new) }
         ensures held { W.honest → result ≡ Ok true → HasEntries (F.stored self.old) number }
         ensures kept { W.honest → result ≢ Ok true → F.stored self.new ≡ F.stored self.old }
         ensures counted { Counted (result ≡ Err files.Device) (F.failures self.old) (F.failures self.new) }
     {
-        let Some(body) = self.last.changed(alloc, number, name, facts)? else {
+        let Some(body) = self.bodies.changed(alloc, number, name, facts)? else {
+            return Ok(false);
+        };
+        self.put_body(alloc, number, body)?;
+        Ok(true)
+    }
+
+    /// Stores a directory anew with its entry of that name under another one, as the facts say, in place of any that
+    /// has it, of the body that is kept in memory: true then. It is one store. False where its body isn't kept: nothing
+    /// has changed. After an error nothing has changed.
+    pub fn store_renamed(
+        &mut self,
+        alloc: Global,
+        number: u64,
+        name: &Name,
+        new_name: &Name,
+        facts: RowFacts,
+    ) -> Result<bool, FilesFault>
+        requires storable { IsStorable (entry_as new_name.now facts) }
+        requires sound { W.honest → MayChange (F.stored self.old) number
+            (entry_renamed name.now (entry_as new_name.now facts)) }
+        ensures stored { W.honest → result ≡ Ok true → IsChanged (F.stored self.old) number
+            (entry_renamed name.now (entry_as new_name.now facts)) (F.stored self.new) }
+        ensures held { W.honest → result ≡ Ok true → HasEntries (F.stored self.old) number }
+        ensures kept { W.honest → result ≢ Ok true → F.stored self.new ≡ F.stored self.old }
+        ensures counted { Counted (result ≡ Err files.Device) (F.failures self.old) (F.failures self.new) }
+    {
+        let Some(body) = self.bodies.renamed(alloc, number, name, new_name, facts)? else {
             return Ok(false);
         };
         self.put_body(alloc, number, body)?;
@@ -261,11 +288,11 @@ impl<W: World, F: Files<W>> Overlay<W, F> {
             .replace_body(alloc, number, Identifier::Directory, body.bytes());
         match answer {
             Ok(()) => {
-                self.last.keep(number, body);
+                self.bodies.keep(number, body);
                 Ok(())
             }
             Err(fault) => {
-                self.last.spare(body);
+                self.bodies.spare(body);
                 Err(fault)
             }
         }
@@ -433,10 +460,10 @@ impl<W: World, F: Files<W>> Overlay<W, F> {
         ensures counted { Counted (result ≡ Err files.Device) (F.failures self.old) (F.failures self.new) }
     {
         self.recent.forget(number);
-        self.last.release(number);
+        self.bodies.release(number);
         let bytes = listing.into_numbers(tree)?;
         let answer = self.files.replace(alloc, number, &bytes);
-        self.last.room.keep(bytes);
+        self.bodies.room.keep(bytes);
         answer
     }
 
@@ -481,7 +508,7 @@ impl<W: World, F: Files<W>> Overlay<W, F> {
         ensures counted { Counted (result ≡ Err files.Device) (F.failures self.old) (F.failures self.new) }
     {
         self.recent.forget(number);
-        self.last.release(number);
+        self.bodies.release(number);
         self.files.remove(number)
     }
 
@@ -495,7 +522,7 @@ impl<W: World, F: Files<W>> Overlay<W, F> {
         ensures counted { Counted (result ≡ Err files.Device) (F.failures self.old) (F.failures self.new) }
     {
         self.recent.forget(STATE_NUMBER);
-        self.last.release(STATE_NUMBER);
+        self.bodies.release(STATE_NUMBER);
         let bytes = encode_state(alloc, state)?;
         self.files.replace(alloc, STATE_NUMBER, &bytes)
     }
@@ -523,7 +550,7 @@ impl<W: World, F: Files<W>> Overlay<W, F> {
         ensures counted { Counted (result ≡ Err files.Device) (F.failures self.old) (F.failures self.new) }
     {
         self.recent.forget(STATE_NUMBER);
-        self.last.release(STATE_NUMBER);
+        self.bodies.release(STATE_NUMBER);
         self.files.remove(STATE_NUMBER)
     }
 

@@ -303,6 +303,9 @@ const WITH_I: Rows = &[
 // A byte less than is kept.
 const SHORT: Rows = &[(b'b', 52, 2), (b'd', 52, 3), (b'f', 52, 4), (b'h', 51, 5)];
 
+// With the second of five rows in place of the third.
+const C_FOR_D: Rows = &[(b'b', 52, 2), (b'd', 52, 9), (b'f', 52, 4), (b'h', 52, 5)];
+
 // Other rows, and with one more.
 const OTHER: Rows = &[
     (b'a', 200, 12),
@@ -334,6 +337,9 @@ enum Step {
     Put(u64, Rows, Result<(), FilesFault>),
     // The entry of 52 such letters becomes a file of that number, or goes: what comes of it.
     Change(u64, u8, Option<u8>, Result<bool, FilesFault>),
+    // The entry of 52 such letters gets so many of another one for its name, and becomes a file of that number: what
+    // comes of it.
+    Rename(u64, u8, u8, u8, Result<bool, FilesFault>),
     // The stored directory of that number has these rows.
     Has(u64, Rows),
     // There is none, for that reason.
@@ -365,6 +371,55 @@ const SCRIPTS: &[(&str, &[Step])] = &[
             Step::Change(1, b'b', Some(6), Ok(true)),
             Step::Change(1, b'b', Some(2), Ok(true)),
             Step::Has(1, WITH_I),
+        ],
+    ),
+    (
+        "a name in place of another",
+        &[
+            Step::Put(1, WITH_I, Ok(())),
+            Step::Rename(1, b'i', b'c', 9, Ok(true)),
+            Step::Has(1, WITH_C),
+            Step::Rename(1, b'c', b'i', 8, Ok(true)),
+            Step::Has(1, WITH_I),
+            Step::Rename(1, b'c', b'i', 8, Ok(true)),
+            Step::Has(1, WITH_I),
+        ],
+    ),
+    (
+        "a name that another entry has",
+        &[
+            Step::Put(1, WITH_C, Ok(())),
+            Step::Rename(1, b'c', b'd', 9, Ok(true)),
+            Step::Has(1, C_FOR_D),
+            Step::Change(1, b'd', Some(3), Ok(true)),
+            Step::Has(1, FOUR),
+        ],
+    ),
+    (
+        "a name where the body isn't kept",
+        &[
+            Step::Put(1, SHORT, Ok(())),
+            Step::Put(2, WITH_I, Ok(())),
+            Step::Rename(1, b'b', b'c', 9, Ok(false)),
+            Step::Rename(3, b'b', b'c', 9, Ok(false)),
+            Step::Has(1, SHORT),
+            Step::Lacks(3, GetFault::Absent),
+            Step::Rename(2, b'i', b'c', 9, Ok(true)),
+            Step::Has(2, WITH_C),
+        ],
+    ),
+    (
+        "a new name is refused",
+        &[
+            Step::Put(1, WITH_I, Ok(())),
+            Step::Allow(0),
+            Step::Rename(1, b'i', b'c', 9, Err(FilesFault::Device)),
+            Step::Allow(9),
+            Step::Has(1, WITH_I),
+            Step::Allow(1),
+            Step::Rename(1, b'i', b'c', 9, Ok(true)),
+            Step::Allow(9),
+            Step::Has(1, WITH_C),
         ],
     ),
     (
@@ -405,10 +460,54 @@ const SCRIPTS: &[(&str, &[Step])] = &[
         &[
             Step::Put(1, FOUR, Ok(())),
             Step::Put(2, WITH_C, Ok(())),
+            ADD_C,
+            Step::Has(1, WITH_C),
+            Step::Change(2, b'c', None, Ok(true)),
+            Step::Has(2, FOUR),
+            Step::Rename(1, b'c', b'd', 9, Ok(true)),
+            Step::Has(1, C_FOR_D),
+        ],
+    ),
+    (
+        "two other directories are stored",
+        &[
+            Step::Put(1, FOUR, Ok(())),
+            Step::Put(2, WITH_C, Ok(())),
+            Step::Put(3, OTHER, Ok(())),
             C_IS_NOT_ADDED,
             Step::Has(1, FOUR),
             Step::Change(2, b'c', None, Ok(true)),
+            Step::Change(3, b'c', Some(9), Ok(true)),
             Step::Has(2, FOUR),
+            Step::Has(3, OTHER_WITH_C),
+        ],
+    ),
+    (
+        "of three directories the one that was changed last but one stays",
+        &[
+            Step::Put(1, FOUR, Ok(())),
+            Step::Put(2, WITH_C, Ok(())),
+            ADD_C,
+            Step::Put(3, OTHER, Ok(())),
+            Step::Change(2, b'c', None, Ok(false)),
+            Step::Change(1, b'c', None, Ok(true)),
+            Step::Has(1, FOUR),
+            Step::Has(2, WITH_C),
+        ],
+    ),
+    (
+        "either of two directories is removed",
+        &[
+            Step::Put(1, FOUR, Ok(())),
+            Step::Put(2, WITH_C, Ok(())),
+            Step::Do(Deed::Remove(1)),
+            C_IS_NOT_ADDED,
+            Step::Change(2, b'c', None, Ok(true)),
+            Step::Put(1, FOUR, Ok(())),
+            Step::Do(Deed::Remove(1)),
+            C_IS_NOT_ADDED,
+            Step::Change(2, b'c', Some(9), Ok(true)),
+            Step::Has(2, WITH_C),
         ],
     ),
     (
@@ -598,8 +697,28 @@ fn change(
 ) -> Result<bool, FilesFault> {
     let (letter, new) = entry;
     let name = name(rt, alloc, &[letter; 52]);
-    let outcome = overlay.change_entry(alloc, number, &name, own_file(new));
+    let outcome = overlay.store_entry(alloc, number, &name, own_file(new));
     drop(name);
+    outcome
+}
+
+// What comes of it where the entry of 52 such letters gets another name.
+fn rename(
+    rt: &impl Abort,
+    overlay: &mut Stopping,
+    alloc: Global,
+    number: u64,
+    entry: (u8, u8, u8),
+) -> Result<bool, FilesFault> {
+    let (letter, new_letter, new) = entry;
+    let Some(facts) = own_file(Some(new)) else {
+        return Ok(false);
+    };
+    let old_name = name(rt, alloc, &[letter; 52]);
+    let new_name = name(rt, alloc, &[new_letter; 52]);
+    let outcome = overlay.store_renamed(alloc, number, &old_name, &new_name, facts);
+    drop(old_name);
+    drop(new_name);
     outcome
 }
 
@@ -679,6 +798,9 @@ fn goes(
         Step::Change(number, letter, new, answer) => {
             change(rt, overlay, alloc, *number, (*letter, *new)) == *answer
         }
+        Step::Rename(number, letter, new_letter, new, answer) => {
+            rename(rt, overlay, alloc, *number, (*letter, *new_letter, *new)) == *answer
+        }
         Step::Has(number, rows) => has(overlay, alloc, *number, rows),
         Step::Lacks(number, why) => lacks(overlay, alloc, *number, *why),
         Step::Do(deed) => outcome_of(rt, overlay, alloc, deed).is_ok(),
@@ -728,8 +850,15 @@ fn an_entry_changes_where_the_body_is_kept(rt: HostRuntime) {
     }
 }
 
-// What makes a body of five rows.
-const ADDING: &[Step] = &[Step::Put(1, FOUR, Ok(())), ADD_C];
+// What makes the same body of five rows.
+const MAKING: &[&[Step]] = &[
+    &[Step::Put(1, WITH_C, Ok(()))],
+    &[Step::Put(1, FOUR, Ok(())), ADD_C],
+    &[
+        Step::Put(1, WITH_I, Ok(())),
+        Step::Rename(1, b'i', b'c', 9, Ok(true)),
+    ],
+];
 
 // The SHA-1 of that body.
 const WITH_C_DIGEST: [u8; 20] = [
@@ -749,8 +878,11 @@ fn left_by(rt: &impl Abort, alloc: Global, steps: &[Step]) -> Option<Vec<u8>> {
 
 #[test]
 fn a_changed_directory_is_stored_as_a_whole(rt: HostRuntime) {
-    let file = left_by(&rt, rt.alloc(), ADDING).expect(&rt, "a file");
     let body = body_of(&rt, rt.alloc(), WITH_C);
     let want = told(&rt, rt.alloc(), &NEW_DIRECTORY, &WITH_C_DIGEST, 0, &body);
-    assert!(rt; body.len() == 319 && file == want);
+    assert!(rt; body.len() == 319);
+    for steps in MAKING {
+        let file = left_by(&rt, rt.alloc(), steps).expect(&rt, "a file");
+        assert!(rt; file == want);
+    }
 }

@@ -3,6 +3,6 @@ use Rattle.eden_inode.specs.Listed.{listed_as}
 use Rattle.eden_inode.proofs.OneEntry.{facts_storable}
 use Rattle.eden_inode.proofs.listing.save_changed.Goals as goal
 
-pub change_entry-requires-clause-storable : goal.change_entry-requires-clause-storable
-change_entry-requires-clause-storable g c =
+pub store_entry-requires-clause-storable : goal.store_entry-requires-clause-storable
+store_entry-requires-clause-storable g c =
     facts_storable (entry_as c.args.name.now) c.facts_in-facts.result c.args.name.now (listed_as c.args.listed c.args.dir.now) c.requires.entries.each c.facts_in-facts.ensures

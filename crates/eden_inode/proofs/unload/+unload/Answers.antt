@@ -11,7 +11,7 @@ use Rattle.eden_tree.specs.Directory.{Row, Directory, child_of, with_child, row_
 use Rattle.eden_tree.specs.Rows.{find_row, set_at}
 use Rattle.eden_tree.proofs.CallerLemmas.{order, child_of-with_child, with_child-same, length-keys, keys_of-set_at, find_row-slice_get, slice_get-find_row, set_at-set_row, slice_get-set_at-other}
 use Rattle.eden_tree.proofs.CallerLemmas.{row_size-slice_get, directory_size-child_of}
-use Rattle.eden_coupling.specs.NumberUnloads.{IsPutAway, UnloadsAway, none, same_files}
+use Rattle.eden_coupling.specs.NumberUnloads.{UnloadsAway, none, same_files}
 use Rattle.eden_coupling.specs.Unloading.{IsStoredFirst, IsSettled}
 use Rattle.eden_coupling.proofs.CallerLemmas.{map_some}
 use Rattle.eden_inode.specs.declared.gone.Gone.{Gone}

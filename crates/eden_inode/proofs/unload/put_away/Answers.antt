@@ -1,4 +1,4 @@
-use Rattle.std.proofs.Common.{◌≡◌, ◌⊎◌, ℕ, List, Result, Ok, Err, OnOk, Some, length, inl, inr, sym, ap, ◌∙◌}
+use Rattle.std.proofs.Common.{◌≡◌, ℕ, Result, Ok, Err, OnOk, length, inl, inr, sym, ap, ◌∙◌}
 use Rattle.eden_model.specs.declared.id.Id.{Id}
 use Rattle.eden_model.specs.declared.kind.Origin.TheVariants as origin
 use Rattle.eden_overlay.specs.Files.{Stored}

@@ -6,7 +6,6 @@ use Rattle.eden_tree.specs.Directory.{Row}
 use Rattle.eden_tree.specs.Paths.{row_at}
 use Rattle.eden_coupling.specs.Kept.{IsTable, IsKept}
 use Rattle.eden_coupling.specs.Listings.{listing_of}
-use Rattle.eden_coupling.specs.Loading.{LoadsOwn}
 use Rattle.eden_coupling.specs.NumberKept.{KeepsNumbers}
 use Rattle.eden_coupling.specs.NumberSaves.{IsSameOver}
 use Rattle.eden_coupling.specs.Numberings.{in_files, numbers}

@@ -1,4 +1,4 @@
-use Rattle.std.proofs.Common.{◌≡◌, Some, refl, sym, ap, ◌∙◌}
+use Rattle.std.proofs.Common.{refl, sym, ap, ◌∙◌}
 use Rattle.eden_coupling.specs.Numberings.{in_files, numbers}
 use Rattle.eden_coupling.specs.Shown.{shown_in}
 use Rattle.eden_coupling.proofs.CallerLemmas.{place_at}

@@ -1,4 +1,4 @@
-use Rattle.std.proofs.Common.{◌≡◌, ◌<◌, ◌≤◌, ◌^◌, length, ap, arith}
+use Rattle.std.proofs.Common.{◌≡◌, ◌<◌, ◌^◌, length, ap, arith}
 use Rattle.eden_inode.specs.Trails.{Trail}
 use Rattle.eden_inode.proofs.Names.{pinned}
 use Rattle.eden_inode.proofs.trail.Trail.search.Goals as goal

@@ -23,7 +23,7 @@ invariant_of-self-in_err-file g c = λ honest. (
   known_still (g.F.Files.stored c.self.inside.files) (g.F.Files.stored c.read.new.self) c.args.number c.self.inside.recent.kept.items c.take.new.self.kept.items c.self.inside.recent.whole.items
       c.take.new.self.whole.items
       (c.self.invariant honest).0 c.take.ensures.others (ap (λ v. v.items) c.take.ensures.whole) (c.read.ensures.unchanged honest),
-  body_still (g.F.Files.stored c.self.inside.files) (g.F.Files.stored c.read.new.self) c.self.inside.last.kept c.self.inside.last.kept (c.self.invariant honest).1 refl
+  body_still (g.F.Files.stored c.self.inside.files) (g.F.Files.stored c.read.new.self) c.self.inside.bodies.kept c.self.inside.bodies.kept (c.self.invariant honest).1 refl
       (c.read.ensures.unchanged honest),
 )
 
@@ -32,6 +32,6 @@ invariant_of-self-2 g c = λ honest. (
   known_still (g.F.Files.stored c.self.inside.files) (g.F.Files.stored c.read.new.self) c.args.number c.self.inside.recent.kept.items c.take.new.self.kept.items c.self.inside.recent.whole.items
       c.take.new.self.whole.items
       (c.self.invariant honest).0 c.take.ensures.others (ap (λ v. v.items) c.take.ensures.whole) (c.read.ensures.unchanged honest),
-  body_still (g.F.Files.stored c.self.inside.files) (g.F.Files.stored c.read.new.self) c.self.inside.last.kept c.self.inside.last.kept (c.self.invariant honest).1 refl
+  body_still (g.F.Files.stored c.self.inside.files) (g.F.Files.stored c.read.new.self) c.self.inside.bodies.kept c.self.inside.bodies.kept (c.self.invariant honest).1 refl
       (c.read.ensures.unchanged honest),
 )

@@ -19,7 +19,7 @@ invariant_of-self g c = λ honest.
     let there = subst (λ (X : Stored). HoldsEntries X k es) (sym ok) (entries_held F k es (c.requires.entries honest)) in (
       known_beside F G k _ c.self.inside.recent.kept.items c.forget.new.self.kept.items c.self.inside.recent.whole.items c.forget.new.self.whole.items (c.self.invariant honest).0
           c.forget.ensures.kept c.forget.ensures.whole c.replace_body-answer.result (c.replace_body-answer.ensures.ok honest) (c.replace_body-answer.ensures.err honest),
-      body_with F G k (length (directory_body es)) _ es c.self.inside.last.kept c.keep.new.self.kept (c.self.invariant honest).1 there ok c.keep.ensures.kept c.keep.ensures.other,
+      body_with F G k (length (directory_body es)) _ es c.self.inside.bodies.kept c.keep.new.self.kept (c.self.invariant honest).1 there ok c.keep.ensures.kept c.keep.ensures.other,
     )
 
 pub invariant_of-self-in-Err : goal.invariant_of-self-in-Err
@@ -28,5 +28,5 @@ invariant_of-self-in-Err g c = λ honest.
     let G : Stored = g.F.Files.stored c.replace_body-answer.new.self in (
       known_beside F G c.args.number _ c.self.inside.recent.kept.items c.forget.new.self.kept.items c.self.inside.recent.whole.items c.forget.new.self.whole.items (c.self.invariant honest).0
           c.forget.ensures.kept c.forget.ensures.whole c.replace_body-answer.result (c.replace_body-answer.ensures.ok honest) (c.replace_body-answer.ensures.err honest),
-      body_still F G c.self.inside.last.kept c.spare.new.self.kept (c.self.invariant honest).1 c.spare.ensures (c.in-Err.ensures.err honest),
+      body_still F G c.self.inside.bodies.kept c.spare.new.self.kept (c.self.invariant honest).1 c.spare.ensures (c.in-Err.ensures.err honest),
     )

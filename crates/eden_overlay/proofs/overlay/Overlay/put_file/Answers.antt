@@ -13,7 +13,7 @@ invariant_of-self g c = λ honest.
     let F = g.F.Files.stored c.self.inside.files in (
       known_others F F c.args.number c.self.inside.recent.kept.items c.room-room.new.self.kept.items c.self.inside.recent.whole.items c.room-room.new.self.whole.items (c.self.invariant honest).0
           c.room-room.ensures.kept c.room-room.ensures.whole refl,
-      body_others F F c.args.number c.self.inside.last.kept c.release.new.self.kept (c.self.invariant honest).1 c.release.ensures refl,
+      body_others F F c.args.number c.self.inside.bodies.kept c.release.new.self.kept (c.self.invariant honest).1 c.release.ensures refl,
     )
 
 pub invariant_of-self-in_err-replace_body : goal.invariant_of-self-in_err-replace_body
@@ -21,7 +21,7 @@ invariant_of-self-in_err-replace_body g c = λ honest. (
   known_beside (g.F.Files.stored c.self.inside.files) (g.F.Files.stored c.replace_body.new.self) c.args.number _ c.self.inside.recent.kept.items c.room-room.new.self.kept.items
       c.self.inside.recent.whole.items c.room-room.new.self.whole.items
       (c.self.invariant honest).0 c.room-room.ensures.kept c.room-room.ensures.whole c.replace_body.result (c.replace_body.ensures.ok honest) (c.replace_body.ensures.err honest),
-  body_beside (g.F.Files.stored c.self.inside.files) (g.F.Files.stored c.replace_body.new.self) c.args.number _ c.self.inside.last.kept c.release.new.self.kept (c.self.invariant honest).1
+  body_beside (g.F.Files.stored c.self.inside.files) (g.F.Files.stored c.replace_body.new.self) c.args.number _ c.self.inside.bodies.kept c.release.new.self.kept (c.self.invariant honest).1
       c.release.ensures c.replace_body.result (c.replace_body.ensures.ok honest) (c.replace_body.ensures.err honest),
 )
 
@@ -38,6 +38,6 @@ invariant_of-self-2 g c = λ honest.
       known_with G c.room-room.new.self.most x c.room-room.new.self.kept.items c.keep-kept.new.self.kept.items
           c.room-room.new.self.whole.items c.keep-kept.new.self.whole.items c.keep-kept.result beside there
           c.keep-kept.ensures.kept c.keep-kept.ensures.err (ap (λ v. v.items) c.keep-kept.ensures.whole),
-      body_beside (g.F.Files.stored c.self.inside.files) (g.F.Files.stored c.replace_body.new.self) k _ c.self.inside.last.kept c.release.new.self.kept (c.self.invariant honest).1
+      body_beside (g.F.Files.stored c.self.inside.files) (g.F.Files.stored c.replace_body.new.self) k _ c.self.inside.bodies.kept c.release.new.self.kept (c.self.invariant honest).1
           c.release.ensures c.replace_body.result (c.replace_body.ensures.ok honest) (c.replace_body.ensures.err honest),
     )

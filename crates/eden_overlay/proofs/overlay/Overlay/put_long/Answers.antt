@@ -22,7 +22,7 @@ invariant_of-self-2 g c = λ honest.
         subst (λ (v : Vec Kept Global). AreKeptOf G v.items) (sym c.note_whole.ensures.kept) beside.0,
         more_whole G k c.forget.new.self.whole.items c.note_whole.new.self.whole.items beside.1 c.note_whole.ensures.whole (ap is_some there),
       ),
-      body_beside (g.F.Files.stored c.self.inside.files) (g.F.Files.stored c.replace_body.new.self) k _ c.self.inside.last.kept c.release.new.self.kept (c.self.invariant honest).1
+      body_beside (g.F.Files.stored c.self.inside.files) (g.F.Files.stored c.replace_body.new.self) k _ c.self.inside.bodies.kept c.release.new.self.kept (c.self.invariant honest).1
           c.release.ensures c.replace_body.result (c.replace_body.ensures.ok honest) (c.replace_body.ensures.err honest),
     )
 
@@ -31,6 +31,6 @@ invariant_of-self g c = λ honest. (
   known_beside (g.F.Files.stored c.self.inside.files) (g.F.Files.stored c.replace_body.new.self) c.args.number _ c.self.inside.recent.kept.items c.forget.new.self.kept.items
       c.self.inside.recent.whole.items c.forget.new.self.whole.items
       (c.self.invariant honest).0 c.forget.ensures.kept c.forget.ensures.whole c.replace_body.result (c.replace_body.ensures.ok honest) (c.replace_body.ensures.err honest),
-  body_beside (g.F.Files.stored c.self.inside.files) (g.F.Files.stored c.replace_body.new.self) c.args.number _ c.self.inside.last.kept c.release.new.self.kept (c.self.invariant honest).1
+  body_beside (g.F.Files.stored c.self.inside.files) (g.F.Files.stored c.replace_body.new.self) c.args.number _ c.self.inside.bodies.kept c.release.new.self.kept (c.self.invariant honest).1
       c.release.ensures c.replace_body.result (c.replace_body.ensures.ok honest) (c.replace_body.ensures.err honest),
 )
