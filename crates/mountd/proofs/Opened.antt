@@ -8,7 +8,7 @@ use Rattle.eden_model.specs.declared.world.World.{Ghosts}
 use Rattle.eden_overlay.specs.declared.files.Files.{Ghosts as Files}
 use Rattle.mountd_options.specs.declared.command.MountOptions.{MountOptions}
 use Rattle.mountd.specs.declared.mount_files.EitherFiles.{EitherFiles}
-use Rattle.mountd.specs.declared.mount_files.EitherFiles.TheVariants.{Kept}
+use Rattle.mountd.specs.declared.mount_files.EitherFiles.TheVariants.{Overlay}
 use Rattle.mountd.specs.Serving.{IsOverlayRun, IsAskedRun, IsKeptRun}
 
 module _ {T H B : Type 0} (path : H → B) (named : T → B) where
@@ -35,7 +35,7 @@ module _ {T H B : Type 0} (path : H → B) (named : T → B) where
         kept one folder options status (held_for r held (Some one) taken folder says ok some same)
 
 module _ {W I O M K : Type 0} (w : Ghosts W) (i : Read I) (o : Write O) (f : Files (EitherFiles M K) W) where
-  pub of_kept : (options : MountOptions) (files : K) (status : ℕ) → (status ≡ 3) ⊎ IsAskedRun w i o f options (Kept files) status
+  pub of_kept : (options : MountOptions) (files : K) (status : ℕ) → (status ≡ 3) ⊎ IsAskedRun w i o f options (Overlay files) status
       → (status ≡ 3) ⊎ IsOverlayRun w i o f options status
   of_kept options files status (inl is) = inl is
   of_kept options files status (inr run) = inr (files, run)

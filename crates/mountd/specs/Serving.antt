@@ -13,7 +13,7 @@ use Rattle.mountd_options.specs.declared.command.MountOptions.{MountOptions}
 use Rattle.mountd_options.specs.declared.command.ServeOptions.{ServeOptions}
 use Rattle.mountd.specs.Runs.{IsSharedRun, limit_of}
 use Rattle.mountd.specs.declared.mount_files.EitherFiles.{EitherFiles}
-use Rattle.mountd.specs.declared.mount_files.EitherFiles.TheVariants.{Memory, Kept}
+use Rattle.mountd.specs.declared.mount_files.EitherFiles.TheVariants.{Memory, Overlay}
 
 -- how what a folder keeps is opened
 abbrev pub opening_of : Bool → Opening
@@ -37,7 +37,7 @@ module _ {W I O : Type 0} (w : Ghosts W) (i : Read I) (o : Write O) where
   module _ {M K : Type 0} (f : Files (EitherFiles M K) W) where
     -- .. over a folder's files
     abbrev pub IsOverlayRun : MountOptions → ℕ → Type 0
-    IsOverlayRun options status = (files : K) × IsAskedRun f options (Kept files) status
+    IsOverlayRun options status = (files : K) × IsAskedRun f options (Overlay files) status
 
     -- .. over files in memory, of which none is there yet, if no folder is to keep the changes, and else over a folder's
     abbrev pub IsKeptRun : {T : Type 0} → Option T → MountOptions → ℕ → Type 0

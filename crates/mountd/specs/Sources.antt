@@ -27,7 +27,7 @@ failures_of (Server s) = s.failures
 failures_of (Repository s) = s.failures
 failures_of (RepositoryAndServer s) = s.failures
 
--- it is where the options say that objects come from, and hasn't failed yet, but in connecting
+-- it is where the options say that objects come from, and no failure of it is counted yet
 abbrev pub IsSourceOf : Objects → ObjectSource → Type 0
 IsSourceOf (objects.Folder path) (Folder s) = s ≡ record { path = string_bytes path; failures = 0 }
 IsSourceOf (objects.Server address) (Server s) = (s.address ≡ address) × (s.failures ≡ 0)

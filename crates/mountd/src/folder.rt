@@ -64,7 +64,7 @@ fn show_overlay<R: Threads + Wait + Sync>(
         Err(fault) => report::unopened(rt, fault.name()),
         Ok(mut files) => {
             note_changes(rt, &place, &mut files, &mut look);
-            show_files(threads, rt, options, look, MountFiles::Kept(files))
+            show_files(threads, rt, options, look, MountFiles::Overlay(files))
         }
     }
 }

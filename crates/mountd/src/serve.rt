@@ -92,7 +92,7 @@ fn serve_folder<R: Threads + Wait + Sync>(
         Err(fault) => return report::unopened(rt, fault.name()),
         Ok(files) => files,
     };
-    serve_files(threads, rt, options, MountFiles::Kept(files))
+    serve_files(threads, rt, options, MountFiles::Overlay(files))
 }
 
 /// Serves sessions over these files, with the objects that are asked for. Status 3, where those can't be had.

@@ -1,5 +1,6 @@
 //! Where the objects of a mount come from: a folder, a server of this machine, a Git repository, or that and a server.
 ghost use Rattle.std.specs.Prelude.{◌≡◌, IfOk, length};
+ghost use Rattle.std.specs.List.{AllByRecursion};
 ghost use Rattle.mountd.specs.Sources.{IsSourceOf};
 
 use eden_fallback::Fallback;
@@ -109,19 +110,20 @@ fn copied(alloc: Global, objects: &Objects) -> Result<Objects, AllocError>
     }
 }
 
-/// Sources of which these options name one, so many, each with files or a connection of its own. `Memory` also where a
-/// folder's or a server's find none.
+/// So many sources, each the one that these options name, with files or a connection of its own. `Memory` also where
+/// there is none for a folder's or a server's.
 pub fn object_sources(
     rt: &HostRuntime,
     objects: &Objects,
     count: u32,
 ) -> Result<Vec<ObjectSource>, GitFault>
     ensures count { IfOk result (λ sources. length sources.items ≡ count) }
+    ensures named { IfOk result (λ sources. AllByRecursion (IsSourceOf objects.now) sources.items) }
 {
     let mut sources = Vec::new(rt.alloc());
     for _made in 0..count {
-        let objects = copied(rt.alloc(), objects).map_err(|_| GitFault::Memory)?;
-        let source = object_source(rt, objects)?;
+        let copy = copied(rt.alloc(), objects).map_err(|_| GitFault::Memory)?;
+        let source = object_source(rt, copy)?;
         sources.push(source).map_err(|_| GitFault::Memory)?;
     }
     Ok(sources)

@@ -31,7 +31,7 @@ pub fn stdio(rt: &HostRuntime, mut options: MountOptions) -> ExitCode {
         Ok(Some((folder, lock))) => {
             let status = match overlay_files(rt, folder) {
                 Err(fault) => report::unopened(rt, fault.name()),
-                Ok(files) => serve_files(rt, options, MountFiles::Kept(files)),
+                Ok(files) => serve_files(rt, options, MountFiles::Overlay(files)),
             };
             drop(lock);
             status
