@@ -1,5 +1,5 @@
 -- Where the objects of a mount come from.
-use Rattle.std.specs.Prelude.{◌≡◌, ℕ, ⊥, string_bytes}
+use Rattle.std.specs.Prelude.{◌≡◌, ℕ, string_bytes}
 use Rattle.eden_model.specs.declared.id.Id.{Id}
 use Rattle.eden_source.specs.Fetching.{Answer}
 use Rattle.eden_source.specs.InFolder.{FetchedFromFolder}

