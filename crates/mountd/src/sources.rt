@@ -1,5 +1,5 @@
 //! Where the objects of a mount come from: a folder, a server of this machine, a Git repository, or that and a server.
-ghost use Rattle.std.specs.Prelude.{◌≡◌, IfOk, length};
+ghost use Rattle.std.specs.Prelude.{◌≡◌, IfOk, length, string_bytes};
 ghost use Rattle.mountd.specs.Sources.{IsSourceOf};
 
 use eden_fallback::Fallback;
@@ -55,20 +55,24 @@ impl Source<Outside> for ObjectSource {
 }
 
 /// A source over a folder.
-pub fn folder_source(rt: &HostRuntime, folder: String) -> FolderSource<HostRuntime> {
+pub fn folder_source(rt: &HostRuntime, folder: String) -> FolderSource<HostRuntime>
+    ensures { result ≡ record { path = string_bytes folder; failures = 0 } }
+{
     FolderSource::new(*rt, PathBuf::from(folder))
 }
 
 /// A source over the server at this address.
-fn socket_source(rt: &HostRuntime, server: Address) -> SocketSource<HostRuntime> {
+fn socket_source(rt: &HostRuntime, server: Address) -> SocketSource<HostRuntime>
+    ensures address { result.address ≡ server }
+    ensures failures { result.failures ≡ 0 }
+{
     SocketSource::new(rt.alloc(), *rt, server, Duration::from_secs(PATIENCE))
 }
 
 /// A source over the Git repository that is there, or why there is none.
-pub fn git_source(
-    rt: &HostRuntime,
-    repository: String,
-) -> Result<GitSource<HostRuntime>, GitFault> {
+pub fn git_source(rt: &HostRuntime, repository: String) -> Result<GitSource<HostRuntime>, GitFault>
+    ensures { IfOk result (λ source. source ≡ record { path = string_bytes repository; failures = 0 }) }
+{
     GitSource::open(rt.alloc(), *rt, PathBuf::from(repository))
 }
 
