@@ -63,12 +63,12 @@ const LARGE: usize = 1 << 20;
 /// is what its file holds.
 ///
 /// The bodies of the two directories that were stored last stay in memory too, of those that have from 256 bytes to
-/// 4 MiB, each in room of up to twice that, so that `store_entry` and `store_renamed` needn't write their other entries
+/// 4 MiB, each in room of up to 10 MiB, so that `store_entry` and `store_renamed` needn't write their other entries
 /// anew. A shorter one or a longer one isn't kept, and those of other directories stay then. A body goes once something
 /// else is stored as its file. Under an honest outside its entries are what its file holds.
 ///
 /// The room that a file was written in stays too, at most 1 MiB of it for contents and 4 MiB for directories: a store
-/// that needs no more takes no memory for its file.
+/// that needs no more takes no memory for its file, but for `store_renamed`, which makes two.
 #[derive(Drop)]
 pub struct Overlay<W: World, F: Files<W>> {
     files: F,
@@ -243,8 +243,8 @@ impl<W: World, F: Files<W>> Overlay<W, F> {
     }
 
     /// Stores a directory anew with its entry of that name under another one, as the facts say, in place of any that
-    /// has it, of the body that is kept in memory: true then. It is one store. False where its body isn't kept: nothing
-    /// has changed. After an error nothing has changed.
+    /// has it, of the body that is kept in memory: true then. It is one store. If both names are one the entry goes.
+    /// False where its body isn't kept: nothing has changed. After an error nothing has changed.
     pub fn store_renamed(
         &mut self,
         alloc: Global,
