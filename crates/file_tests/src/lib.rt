@@ -15,6 +15,8 @@ mod formats;
 #[cfg(test)]
 mod journals;
 #[cfg(test)]
+mod kept_bodies;
+#[cfg(test)]
 mod kinds;
 #[cfg(test)]
 mod marks;
