@@ -33,13 +33,15 @@ as_many A m lanes names tied seats =
 pub all_agree : {T : Type 0} (A : Table T) (honest : Type 0) (opening : Tree) (N : Numbers) (m : Core T) (passes : List Carried) → IsMount A honest opening N m → AreEach passes m.queue.passes
     → ((p : Carried) → Has passes p → IsKnown A m p) → Agrees A m passes
 all_agree A honest opening N m passes mount are known = record {
-  each = are;
+  told = record {
+    each = are;
+    told = λ p has. knows_own m.history p (known p has).told;
+    entries = λ n e is. (let pass = mount.entries (n - 1) e is.1 in are.each e.pass pass.0 pass.1);
+  };
   rest = λ c s pends.
       let within = seat_within m.seats (c - 1) s pends.1 in
       let one = are.each c pends.0 (let some = pends.0 in let seats = mount.seats in omega arith) in
       let free = ap (λ n. slice_get m.seats (n - 1)) (sym one.2) ∙ (known one.0 one.1).free in
       absurd (cc (sym (seat_there m.seats (c - 1) None free) ∙ pends.1));
-  told = λ p has. knows_own m.history p (known p has).told;
-  entries = λ n e is. (let pass = mount.entries (n - 1) e is.1 in are.each e.pass pass.0 pass.1);
   kept = λ p has. (known p has).kept;
 }

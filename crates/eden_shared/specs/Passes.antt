@@ -69,11 +69,15 @@ Heard p t = (k : ℕ) × (slice_get p.told k ≡ Some t)
 abbrev pub KnowsItsOwn : List Entry → Carried → Type 0
 KnowsItsOwn history p = (t : Told) → Heard p t ↔ IsEntry history t.number (entry p.number t.request t.reply)
 
--- There is one pass of each number, nothing is pending, each was told of its entries and of nothing else, and no entry is
--- anybody else's. The mount keeps what it was opened with.
+-- Of so many passes there is one of each number, each was told of its entries and of nothing else, and no entry is anybody
+-- else's.
+pub record AreTold (history : List Entry) (n : ℕ) (passes : List Carried) : Type 0 where
+  pub each : AreEach passes n
+  pub told : (p : Carried) → Has passes p → KnowsItsOwn history p
+  pub entries : (k : ℕ) (e : Entry) → IsEntry history k e → HasNumber passes e.pass
+
+-- The passes were told what the history says, nothing is pending, and the mount keeps what it was opened with.
 pub record Agrees {T : Type 0} (A : Table T) (m : Core T) (passes : List Carried) : Type 0 where
-  pub each : AreEach passes m.queue.passes
+  pub told : AreTold m.history m.queue.passes passes
   pub rest : (c : ℕ) (s : Pending) → ¬ Pends c s m
-  pub told : (p : Carried) → Has passes p → KnowsItsOwn m.history p
-  pub entries : (n : ℕ) (e : Entry) → IsEntry m.history n e → HasNumber passes e.pass
   pub kept : (p : Carried) → Has passes p → Meets A p.terms m

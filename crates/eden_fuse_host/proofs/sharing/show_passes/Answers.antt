@@ -26,7 +26,7 @@ returns g c = λ terms passes.
     let served = subst (λ (ps : List Carried). IsServed g.V.Receiver g.O.Sender Comes g.W.World.honest g.W.World.opening g.W.World.numbers c.args.manner ps left
     c.show_by-passes.result.1 c.show_by-passes.result.2) passes c.show_by-passes.ensures in
     let agrees = c.in-Ok.ensures.ok in
-    let first = agrees.each.each 1 (omega arith) c.holds.ensures.queue.some_passes.0 in
+    let first = agrees.told.each.each 1 (omega arith) c.holds.ensures.queue.some_passes.0 in
     let seats = served_seats g.V.Receiver g.O.Sender Comes g.W.World.honest g.W.World.opening g.W.World.numbers c.args.manner (newcomers terms 1 terms.passes) left
     c.show_by-passes.result.1 c.show_by-passes.result.2 served in
     let same = terms_stay terms (newcomers terms 1 terms.passes) left first.1.0 first.0 seats (newcomers_terms terms 1 terms.passes) first.1.1 in

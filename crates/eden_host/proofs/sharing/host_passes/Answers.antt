@@ -22,7 +22,7 @@ returns g c = λ terms passes.
     let A = g.T.Attempts.table in
     let hosted = subst (λ (ps : List Carried). AreHosted g.I.Read g.O.Write g.W.World.honest g.W.World.opening g.W.World.numbers ps told.0 c.host-hosted.result.outcome) passes told.1 in
     let agrees = subst (λ r. IfOk r (λ m. Agrees A m told.0)) c.in-Ok.is told.2 in
-    let first = agrees.each.each 1 (omega arith) c.holds.ensures.queue.some_passes.0 in
+    let first = agrees.told.each.each 1 (omega arith) c.holds.ensures.queue.some_passes.0 in
     let same = terms_stay g.I.Read g.O.Write g.W.World.honest g.W.World.opening g.W.World.numbers terms (newcomers terms 1 terms.passes) told.0 c.host-hosted.result.outcome hosted
     (newcomers_terms terms 1 terms.passes) first.1.0 first.0 first.1.1 in
     record {
