@@ -19,13 +19,14 @@ use Rattle.eden_host.specs.declared.fault.HostFault.TheVariants as host
 use Rattle.eden_serve_life.specs.declared.fault.SharedLifeFault.{SharedLifeFault}
 use Rattle.eden_serve_life.specs.declared.life.SharedEnding.{SharedEnding}
 use Rattle.eden_host.specs.declared.sharing.HostedTable.{HostedTable}
-use Rattle.eden_serve_life.specs.Lives.{Ends, IsHosted, LivesShared, LivesSharedBy, first_told}
+use Rattle.eden_serve_life.specs.Inside.{Ends, IsHostedInside, LivesSharedInside, LivesSharedInsideBy}
+use Rattle.eden_serve_life.specs.Lives.{first_told}
 use Rattle.eden_host.specs.Sharing.{HostsTable, terms_at}
 
 module _ {W F I O : Type 0} (w : Ghosts W) (f : Files F W) (r : Read I) (v : Write O)
     (limit : ℕ) (base : Base) (settings : Settings) (files : F) (left : SharedEnding F) where
   -- the first fault of hosting guests is none of the opening
-  lived : (hosted : Result ⊤ HostFault) (o : Option FilesFault) → IsHosted w f r v limit base settings files left → LivesSharedBy w f r v limit (first_told hosted o) base settings files left
+  lived : (hosted : Result ⊤ HostFault) (o : Option FilesFault) → IsHostedInside w f r v limit base settings files left → LivesSharedInsideBy w f r v limit (first_told hosted o) base settings files left
   lived (Err host.Listen) o h = h
   lived (Err (host.Session fault)) o h = h
   lived (Ok _) (Some why) h = h
@@ -34,11 +35,11 @@ module _ {W F I O : Type 0} (w : Ghosts W) (f : Files F W) (r : Read I) (v : Wri
   -- what was opened was hosted and closed, or closed at once
   pub ended : (t : Checkout F) (room : Room) (hosted : Result (HostedTable (Checkout F)) (Checkout F)) → IsOpened w f base settings files t → room ≡ room_for settings
       → IfOk hosted (HostsTable (attempted w f) r v w.honest w.opening w.numbers (terms_at (attempted w f) room limit t)) → IfErr hosted (λ (u : Checkout F). u ≡ t) → Ends w f hosted left
-      → LivesShared w f r v limit base settings files left
+      → LivesSharedInside w f r v limit base settings files left
   ended t room (Ok x) opened is ok err ends =
       let hosts = subst (λ (y : Room). HostsTable (attempted w f) r v w.honest w.opening w.numbers (terms_at (attempted w f) y limit t) x) is ok in
       let N = replay_numbers w.numbers hosts.ended.history in
-      let whole : IsHosted w f r v limit base settings files left = record {
+      let whole : IsHostedInside w f r v limit base settings files left = record {
         begun = t;
         opened = opened;
         hosted = x.outcome;
@@ -48,9 +49,9 @@ module _ {W F I O : Type 0} (w : Ghosts W) (f : Files F W) (r : Read I) (v : Wri
             left.unclosed left.files (ends.0 N (backs_as w f N x.table hosts.ended.table hosts.table hosts.is.backed));
         told = ends.1;
       } in
-      subst (λ (o : Result ⊤ SharedLifeFault). LivesSharedBy w f r v limit o base settings files left) (sym ends.1) (lived x.outcome left.unclosed whole)
+      subst (λ (o : Result ⊤ SharedLifeFault). LivesSharedInsideBy w f r v limit o base settings files left) (sym ends.1) (lived x.outcome left.unclosed whole)
   ended t room (Err u) opened is ok err ends =
-      subst (λ (o : Result ⊤ SharedLifeFault). LivesSharedBy w f r v limit o base settings files left) (sym ends.1) (inr (record {
+      subst (λ (o : Result ⊤ SharedLifeFault). LivesSharedInsideBy w f r v limit o base settings files left) (sym ends.1) (inr (record {
         memory = refl;
         begun = t;
         opened = opened;

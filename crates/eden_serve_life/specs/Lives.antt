@@ -1,29 +1,25 @@
--- A shared mount's life: the overlay is opened over a commit's tree, its guests are hosted, and the overlay is closed.
-use Rattle.std.specs.Prelude.{◌≡◌, ◌⊎◌, ℕ, Option, Some, None, Result, Ok, Err, ⊤}
+-- A shared mount's life as it is seen from outside: its guests' lines and answers, and what its overlay holds before and after.
+use Rattle.std.specs.Prelude.{◌≡◌, ◌⊎◌, ℕ, List, Option, Some, None, Result, Ok, Err, ⊤}
 use Rattle.std.specs.declared.io.Read.{Ghosts as Read}
 use Rattle.std.specs.declared.io.Write.{Ghosts as Write}
+use Rattle.eden_model.specs.declared.entry.Entry.{Entry}
+use Rattle.eden_model.specs.declared.id.Id.{Id}
 use Rattle.eden_model.specs.declared.world.World.{Ghosts}
-use Rattle.eden_model.specs.Histories.{replay}
-use Rattle.eden_model.specs.Numbers.{Numbers, replay_numbers}
+use Rattle.eden_model.specs.Histories.{Legal, replay}
+use Rattle.eden_model.specs.Numbers.{replay_numbers}
 use Rattle.eden_overlay.specs.declared.files.Files.{Ghosts as Files}
 use Rattle.eden_overlay.specs.declared.files.FilesFault.{FilesFault}
-use Rattle.eden_inode.specs.Tables.{shows}
-use Rattle.eden_mount.specs.Core.{Core}
-use Rattle.eden_mount.specs.Settings.{Settings}
 use Rattle.eden_checkout.specs.declared.fault.OpenFault.{OpenFault}
 use Rattle.eden_checkout.specs.declared.fault.OpenFault.TheVariants as opens
-use Rattle.eden_checkout.specs.Attempted.{attempted}
-use Rattle.eden_checkout.specs.Checkouts.{Checkout}
 use Rattle.eden_shared.specs.declared.account.Terms.{Terms}
-use Rattle.eden_stdio_life.specs.declared.opening.Base.{Base}
-use Rattle.eden_stdio_life.specs.Opening.{Closes, IsBacking, IsOpened, IsRefused}
+use Rattle.eden_shared.specs.Passes.{AreTold, Carried, newcomers}
+use Rattle.eden_stdio_life.specs.Left.{HoldsTheSame, LeavesFiles}
 use Rattle.eden_host.specs.declared.fault.HostFault.{HostFault}
 use Rattle.eden_host.specs.declared.fault.HostFault.TheVariants as host
+use Rattle.eden_host.specs.Sessions.{AreHosted}
 use Rattle.eden_serve_life.specs.declared.fault.SharedLifeFault.{SharedLifeFault}
 use Rattle.eden_serve_life.specs.declared.fault.SharedLifeFault.TheVariants as life
 use Rattle.eden_serve_life.specs.declared.life.SharedEnding.{SharedEnding}
-use Rattle.eden_host.specs.declared.sharing.HostedTable.{HostedTable}
-use Rattle.eden_host.specs.Sharing.{IsLeft}
 
 -- the fault of hosting guests is told before that of the close
 abbrev pub first_told : Result ⊤ HostFault → Option FilesFault → Result ⊤ SharedLifeFault
@@ -32,51 +28,42 @@ first_told (Err (host.Session fault)) unclosed = Err (life.Session fault)
 first_told (Ok _) (Some fault) = Err (life.Close fault)
 first_told (Ok _) None = Ok tt
 
--- what a mount of these settings over that checkout, whose history has that limit, is opened with
-abbrev pub opened_with : {F : Type 0} → Settings → ℕ → Checkout F → Terms
-opened_with s limit t = record { passes = s.passes; limit = limit; commit = t.root; next = t.inodes.next }
-
-module _ {W F : Type 0} (w : Ghosts W) (f : Files F W) where
-  -- a checkout was closed to the files, or it wasn't, and shows what it showed; they back what it backed of numbers
-  abbrev pub ClosesAs : Checkout F → SharedEnding F → Type 0
-  ClosesAs t left = (N : Numbers) → IsBacking w f N t → Closes w f t.root t (shows w f t.inodes) N left.unclosed left.files
-
-  -- an open checkout was closed, and the first fault told: its guests were hosted, or there was no memory to share it
-  abbrev pub Ends : Result (HostedTable (Checkout F)) (Checkout F) → SharedEnding F → Type 0
-  Ends (Ok x) left = ClosesAs x.table left × (left.outcome ≡ first_told x.outcome left.unclosed)
-  Ends (Err t) left = ClosesAs t left × (left.outcome ≡ Err (life.Open opens.Memory))
-
-  -- the overlay wasn't opened, for that fault
-  pub record IsUnopened (base : Base) (files : F) (why : OpenFault) (left : SharedEnding F) : Type 0 where
-    pub refused : IsRefused w f base files why left.files
+-- the mount has so many passes, and its history may become so long
+module _ {W F I O : Type 0} (w : Ghosts W) (f : Files F W) (i : Read I) (o : Write O) (passes limit : ℕ) where
+  -- the overlay wasn't opened, and stays as it was
+  pub record IsUnopened (files : F) (left : SharedEnding F) : Type 0 where
+    pub same : HoldsTheSame w f files left.files
     pub unclosed : left.unclosed ≡ None
 
-  -- The overlay was opened, and closed again, since there was no memory to share it. Where the outside is honest, it shows
-  -- the opening tree still, and backs the opening numbers.
-  pub record IsUnshared (base : Base) (settings : Settings) (files : F) (why : OpenFault) (left : SharedEnding F) : Type 0 where
+  -- .. or it was, and closed again, since there was no memory to share it
+  pub record IsUnshared (root : Id) (why : OpenFault) (left : SharedEnding F) : Type 0 where
     pub memory : why ≡ opens.Memory
-    pub begun : Checkout F
-    pub opened : IsOpened w f base settings files begun
-    pub closed : Closes w f base.root begun w.opening w.numbers left.unclosed left.files
+    pub opened : F
+    pub ended : LeavesFiles w f root w.opening w.numbers opened left.unclosed left.files
 
-  -- the history may become so long
-  module _ {I O : Type 0} (i : Read I) (o : Write O) (limit : ℕ) where
-    -- The overlay was opened, its guests hosted, and the overlay closed, however the sessions ended. The files are the same
-    -- commit's, and no inode number was given again. Where the outside is honest, what they show is the tree after what the
-    -- guests were told, and where they were closed they back the numbers that were told.
-    pub record IsHosted (base : Base) (settings : Settings) (files : F) (left : SharedEnding F) : Type 0 where
-      pub begun : Checkout F
-      pub opened : IsOpened w f base settings files begun
-      pub hosted : Result ⊤ HostFault
-      pub ended : Core (Checkout F)
-      pub is : IsLeft (attempted w f) i o w.honest w.opening w.numbers (opened_with settings limit begun) hosted ended
-      pub closed : Closes w f base.root ended.table (replay w.opening ended.history) (replay_numbers w.numbers ended.history) left.unclosed left.files
-      pub told : left.outcome ≡ first_told hosted left.unclosed
+  -- what each pass of the mount knows of it
+  abbrev pub terms_from : Id → ℕ → Terms
+  terms_from root next = record { passes = passes; limit = limit; commit = root; next = next }
 
-    abbrev pub LivesSharedBy : Result ⊤ SharedLifeFault → Base → Settings → F → SharedEnding F → Type 0
-    LivesSharedBy (Err (life.Open why)) base settings files left = IsUnopened base files why left ⊎ IsUnshared base settings files why left
-    LivesSharedBy outcome base settings files left = IsHosted base settings files left
+  -- The overlay was opened over that commit's tree, a guest hosted for each pass, and the overlay closed, however the sessions
+  -- ended. What the guests were told is one history. If the outside is honest it is one of the opening tree with its numbers, and
+  -- an overlay that was closed shows the tree after it, and backs the numbers that it gave.
+  pub record IsHosted (root : Id) (left : SharedEnding F) : Type 0 where
+    pub next : ℕ
+    pub guests : List Carried
+    pub said : Result ⊤ HostFault
+    pub hosted : AreHosted i o w.honest w.opening w.numbers (newcomers (terms_from root next) 1 passes) guests said
+    pub history : List Entry
+    pub told : AreTold history passes guests
+    pub legal : w.honest → Legal w.opening w.numbers history
+    pub served : F
+    pub ended : LeavesFiles w f root (replay w.opening history) (replay_numbers w.numbers history) served left.unclosed left.files
+    pub outcome : left.outcome ≡ first_told said left.unclosed
 
-    -- a whole life, with the files that the overlay was opened over
-    abbrev pub LivesShared : Base → Settings → F → SharedEnding F → Type 0
-    LivesShared base settings files left = LivesSharedBy left.outcome base settings files left
+  abbrev pub LivesSharedBy : Result ⊤ SharedLifeFault → Id → F → SharedEnding F → Type 0
+  LivesSharedBy (Err (life.Open why)) root files left = IsUnopened files left ⊎ IsUnshared root why left
+  LivesSharedBy outcome root files left = IsHosted root left
+
+  -- a whole life, with the files that the overlay was opened over
+  abbrev pub LivesShared : Id → F → SharedEnding F → Type 0
+  LivesShared root files left = LivesSharedBy left.outcome root files left

@@ -4,7 +4,8 @@ ghost use Rattle.eden_checkout.specs.Opening.{MayOpen};
 ghost use Rattle.eden_shared.specs.Lanes.{names_of};
 ghost use Rattle.eden_shared.specs.Opening.{AreTied};
 ghost use Rattle.eden_serve_life.specs.declared.fault.SharedLifeFault.TheVariants as life;
-ghost use Rattle.eden_serve_life.specs.Lives.{Ends, LivesShared, first_told};
+ghost use Rattle.eden_serve_life.specs.Inside.{Ends, LivesSharedInside};
+ghost use Rattle.eden_serve_life.specs.Lives.{LivesShared, first_told};
 
 use crate::fault::SharedLifeFault;
 use eden_checkout::{Checkout, OpenFault};
@@ -113,7 +114,9 @@ fn live_tied<
     requires empty { H.entries history ≡ [] }
     requires ties { AreTied ties.lanes.items ties.ends.items config.now.passes }
     requires names { names_of ties.lanes.items ≡ J.names }
-    ensures { LivesShared W.World F.Files I.Read O.Write (H.limit history) base config.now backing.files result }
+    ensures lives { LivesShared W.World F.Files I.Read O.Write config.now.passes (H.limit history) base.root backing.files
+        result }
+    ensures inside { LivesSharedInside W.World F.Files I.Read O.Write (H.limit history) base config.now backing.files result }
 {
     let Backing {
         files,
@@ -142,7 +145,7 @@ fn live_tied<
 /// their state.
 ///
 /// Errors are told in `outcome`, the first in the order opening, listening, session, close. Where the overlay isn't
-/// opened, or there is no memory to share it, nobody is listened for.
+/// opened, or there is no memory to share it, nobody is listened for; `inside` says why it wasn't opened.
 pub fn live_shared<
     W: World + Send,
     F: Files<W> + Send,
@@ -165,7 +168,9 @@ pub fn live_shared<
     requires files { W.honest → MayOpen base.opening W.repository W.opening W.numbers base.root
         (F.stored backing.files) }
     requires empty { H.entries history ≡ [] }
-    ensures { LivesShared W.World F.Files I.Read O.Write (H.limit history) base config.now backing.files result }
+    ensures lives { LivesShared W.World F.Files I.Read O.Write config.now.passes (H.limit history) base.root backing.files
+        result }
+    ensures inside { LivesSharedInside W.World F.Files I.Read O.Write (H.limit history) base config.now backing.files result }
 {
     let Ok(ties) = Ties::new(alloc, config.passes()) else {
         return unopened(OpenFault::Memory, backing.files);

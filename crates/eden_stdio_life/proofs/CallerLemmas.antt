@@ -11,6 +11,7 @@ use Rattle.eden_overlay.specs.Held.{HoldsState}
 use Rattle.eden_inode.specs.Tables.{shows}
 use Rattle.eden_checkout.specs.Checkouts.{Checkout}
 use Rattle.eden_checkout.specs.Opening.{CanOpen, files_show}
+use Rattle.eden_stdio_life.specs.Left.{LeavesFiles}
 use Rattle.eden_stdio_life.specs.Opening.{Closes, IsBacking}
 
 module _ {W F : Type 0} (w : Ghosts W) (f : Files F W) where
@@ -39,3 +40,9 @@ module _ {W F : Type 0} (w : Ghosts W) (f : Files F W) where
     saved = λ h all. ap (λ (id : Id). files_show w.repository id (f.stored files)) (sym (ap (λ (v : Checkout F). v.root) is ∙ of))
         ∙ c.saved h all ∙ ap (λ (v : Checkout F). shows w f v.inodes) is ∙ shown h;
   }
+
+  -- a close, as it is seen from outside
+  pub close_seen : (root : Id) (t : Checkout F) (tree : Tree) (N : Numbers) (unclosed : Option FilesFault) (files : F) → Closes w f root t tree N unclosed files
+      → LeavesFiles w f root tree N t.inodes.files unclosed files
+  close_seen root t tree N None files c = record { closed = λ h. (t.inodes.next, c.state h); opens = c.opens }
+  close_seen root t tree N (Some why) files c = record { device = c.device; sound = c.sound }

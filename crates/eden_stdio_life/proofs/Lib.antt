@@ -1,3 +1,4 @@
 pub mod CallerLemmas
 pub mod Living
 mod Staying
+pub mod Seeing

@@ -1,29 +1,21 @@
--- A mount's life: the overlay is opened over a commit's tree, one caller's session is served, and the overlay is closed.
-use Rattle.std.specs.Prelude.{◌≡◌, ℕ, Bool, Option, Some, None, Result, Ok, Err, ⊤}
-use Rattle.std.specs.List.{AllByRecursion}
+-- A mount's life as it is seen from outside: its lines and its answers, and what its overlay holds before and after.
+use Rattle.std.specs.Prelude.{◌≡◌, ℕ, List, [], Option, Some, None, Result, Ok, Err, ⊤}
+use Rattle.eden_model.specs.declared.entry.Entry.{Entry}
 use Rattle.eden_model.specs.declared.id.Id.{Id}
 use Rattle.eden_model.specs.declared.world.World.{Ghosts}
 use Rattle.eden_model.specs.Histories.{Legal, replay}
-use Rattle.eden_model.specs.Numbers.{Numbers, replay_numbers}
-use Rattle.eden_model.specs.Trees.{Tree}
+use Rattle.eden_model.specs.Numbers.{replay_numbers}
 use Rattle.eden_source.specs.Fetching.{Answer}
 use Rattle.eden_overlay.specs.declared.files.Files.{Ghosts as Files}
 use Rattle.eden_overlay.specs.declared.files.FilesFault.{FilesFault}
-use Rattle.eden_mount.specs.Serving.{Desk, Stays}
-use Rattle.eden_mount.specs.Settings.{Settings, room_for}
-use Rattle.eden_checkout.specs.declared.fault.OpenFault.{OpenFault}
-use Rattle.eden_checkout.specs.Attempted.{attempted}
-use Rattle.eden_checkout.specs.Checkouts.{Checkout}
 use Rattle.eden_wire.specs.declared.session_fault.SessionFault.{SessionFault}
 use Rattle.eden_wire.specs.Serving.{Known, Session}
 use Rattle.eden_stdio_life.specs.declared.fault.LifeFault.{LifeFault}
 use Rattle.eden_stdio_life.specs.declared.fault.LifeFault.TheVariants as life
 use Rattle.eden_stdio_life.specs.declared.life.Backing.{Backing}
 use Rattle.eden_stdio_life.specs.declared.life.Ending.{Ending}
-use Rattle.eden_stdio_life.specs.declared.opening.Base.{Base}
-use Rattle.eden_stdio_life.specs.Calls.{CallAnswers, MayBeTold}
-use Rattle.eden_stdio_life.specs.Opening.{Closes, IsOpened, IsRefused}
-use Rattle.eden_stdio_life.specs.Serving.{Begins}
+use Rattle.eden_stdio_life.specs.Left.{HoldsTheSame, LeavesFiles}
+use Rattle.eden_stdio_life.specs.Ledgers.{LedgerAnswers, ledger}
 
 -- the session's fault is told before that of the close
 abbrev pub first_fault : Result ⊤ SessionFault → Option FilesFault → Result ⊤ LifeFault
@@ -31,45 +23,32 @@ first_fault (Err fault) unclosed = Err (life.Session fault)
 first_fault (Ok _) (Some fault) = Err (life.Close fault)
 first_fault (Ok _) None = Ok tt
 
-module _ {W F : Type 0} (w : Ghosts W) (f : Files F W) where
-  -- a served caller's checkout was closed, and the first fault told
-  pub record Ends {S : Type 0} (root : Id) (t : Checkout F) (tree : Tree) (N : Numbers) (source : S) (said : Result ⊤ SessionFault)
-      (left : Ending F S) : Type 0 where
-    pub files : Closes w f root t tree N left.unclosed left.backing.files
-    pub source_left : left.backing.source ≡ source
+-- the history may become so long
+module _ {W F S : Type 0} (w : Ghosts W) (f : Files F W) (fetched : S → Id → Answer → S → Type 0) (limit : ℕ) where
+  -- The overlay wasn't opened, and stays as it was: nothing was read or written, and the source wasn't asked.
+  pub record IsUnserved (backing : Backing F S) (input output : Known × Known) (left : Ending F S) : Type 0 where
+    pub files : HoldsTheSame w f backing.files left.backing.files
+    pub source : left.backing.source ≡ backing.source
+    pub unread : input.1 ≡ input.0
+    pub unwritten : output.1 ≡ output.0
+    pub unclosed : left.unclosed ≡ None
+
+  -- The overlay was opened over that commit's tree, the caller's session served, and the overlay closed, however the session
+  -- ended. If the outside is honest, what was answered is a history of the opening tree with its numbers, and an overlay that
+  -- was closed shows the tree after it, and backs the numbers that it gave.
+  pub record IsLived (root : Id) (backing : Backing F S) (input output : Known × Known) (left : Ending F S) : Type 0 where
+    pub history : List Entry
+    pub said : Result ⊤ SessionFault
+    pub session : Session (LedgerAnswers fetched limit) (ledger [] backing.source, ledger history left.backing.source) input output said
+    pub legal : w.honest → Legal w.opening w.numbers history
+    pub served : F
+    pub ended : LeavesFiles w f root (replay w.opening history) (replay_numbers w.numbers history) served left.unclosed left.backing.files
     pub told : left.outcome ≡ first_fault said left.unclosed
 
-  -- the history copies replies or doesn't, and may become so long
-  module _ {S : Type 0} (fetched : S → Id → Answer → S → Type 0) (copies : Bool) (limit : ℕ) where
-    -- The overlay wasn't opened, for that fault: nothing was read or written, and the source wasn't asked.
-    pub record IsUnserved (base : Base) (backing : Backing F S) (input output : Known × Known) (why : OpenFault) (left : Ending F S) : Type 0 where
-      pub files : IsRefused w f base backing.files why left.backing.files
-      pub source : left.backing.source ≡ backing.source
-      pub unread : input.1 ≡ input.0
-      pub unwritten : output.1 ≡ output.0
-      pub unclosed : left.unclosed ≡ None
+  abbrev pub LivesBy : Result ⊤ LifeFault → Id → Backing F S → Known × Known → Known × Known → Ending F S → Type 0
+  LivesBy (Err (life.Open why)) root backing input output left = IsUnserved backing input output left
+  LivesBy outcome root backing input output left = IsLived root backing input output left
 
-    -- The overlay was opened, the caller served, and the overlay closed, however the session ended. A request wasn't taken
-    -- for the history's limit or for want of memory alone, and the files are the same commit's. Where the outside is honest,
-    -- the history is one of the opening tree with its numbers, what the files show is the tree after it, and where they were
-    -- closed they back the numbers that it gave.
-    pub record IsLived (base : Base) (settings : Settings) (backing : Backing F S) (input output : Known × Known) (left : Ending F S) : Type 0 where
-      pub begun : Desk (Checkout F) S
-      pub begins : Begins (room_for settings) limit begun.core.table backing.source begun
-      pub opened : IsOpened w f base settings backing.files begun.core.table
-      pub ended : Desk (Checkout F) S
-      pub said : Result ⊤ SessionFault
-      pub session : Session (CallAnswers fetched (attempted w f) w.honest copies) (begun, ended) input output said
-      pub told : AllByRecursion (MayBeTold limit) session.given
-      pub stays : Stays (attempted w f) begun.core ended.core
-      pub legal : w.honest → Legal w.opening w.numbers ended.core.history
-      pub ends : Ends base.root ended.core.table (replay w.opening ended.core.history) (replay_numbers w.numbers ended.core.history)
-          ended.source said left
-
-    abbrev pub LivesBy : Result ⊤ LifeFault → Base → Settings → Backing F S → Known × Known → Known × Known → Ending F S → Type 0
-    LivesBy (Err (life.Open why)) base settings backing input output left = IsUnserved base backing input output why left
-    LivesBy outcome base settings backing input output left = IsLived base settings backing input output left
-
-    -- a whole life, with the input, the output, and what the mount stands on before and after it
-    abbrev pub Lives : Base → Settings → Backing F S → Known × Known → Known × Known → Ending F S → Type 0
-    Lives base settings backing input output left = LivesBy left.outcome base settings backing input output left
+  -- a whole life, with the input, the output, and what the mount stands on before and after it
+  abbrev pub Lives : Id → Backing F S → Known × Known → Known × Known → Ending F S → Type 0
+  Lives root backing input output left = LivesBy left.outcome root backing input output left

@@ -3,7 +3,8 @@ ghost use Rattle.std.specs.Prelude.{◌≡◌, []};
 ghost use Rattle.eden_model.specs.Numbers as numbers;
 ghost use Rattle.eden_inode.specs.Tables.{shows};
 ghost use Rattle.eden_checkout.specs.Opening.{MayOpen};
-ghost use Rattle.eden_stdio_life.specs.Lives.{Lives, Ends, first_fault};
+ghost use Rattle.eden_stdio_life.specs.Inside.{Ends, LivesInside};
+ghost use Rattle.eden_stdio_life.specs.Lives.{Lives, first_fault};
 ghost use Rattle.eden_stdio_life.specs.Opening.{IsBacking};
 
 use crate::fault::LifeFault;
@@ -84,7 +85,7 @@ fn end<W: World, S: Drop, A: Allocator + Clone, F: Files<W>>(
 /// full at its limit, or that there is no memory.
 ///
 /// Errors are told in `outcome`, the first in the order opening, session, close. Where the overlay isn't opened,
-/// nothing is read or written.
+/// nothing is read or written, and `inside` says why it wasn't, as it says of each fault that was told what it came of.
 pub fn live<
     W: World,
     S: Source<W> + Drop,
@@ -106,7 +107,9 @@ pub fn live<
     requires files { W.honest → MayOpen base.opening W.repository W.opening W.numbers base.root
         (F.stored backing.files) }
     requires empty { H.entries history ≡ [] }
-    ensures { Lives W.World F.Files S.fetched H.copies (H.limit history) base config.now backing
+    ensures lives { Lives W.World F.Files S.fetched (H.limit history) base.root backing
+        (R.remaining reader.old, R.remaining reader.new) (O.contents writer.old, O.contents writer.new) result }
+    ensures inside { LivesInside W.World F.Files S.fetched H.copies (H.limit history) base config.now backing
         (R.remaining reader.old, R.remaining reader.new) (O.contents writer.old, O.contents writer.new) result }
 {
     let Backing { files, source } = backing;

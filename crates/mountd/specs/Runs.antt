@@ -21,8 +21,10 @@ use Rattle.eden_fuse_shared_life.specs.Lives.{LivesShared as LivesSharedFolder}
 use Rattle.eden_stdio_life.specs.declared.life.Backing.{Backing}
 use Rattle.eden_stdio_life.specs.declared.life.Ending.{Ending}
 use Rattle.eden_stdio_life.specs.declared.opening.Base.{Base}
+use Rattle.eden_stdio_life.specs.Inside.{LivesInside}
 use Rattle.eden_stdio_life.specs.Lives.{Lives}
 use Rattle.eden_serve_life.specs.declared.life.SharedEnding.{SharedEnding}
+use Rattle.eden_serve_life.specs.Inside.{LivesSharedInside}
 use Rattle.eden_serve_life.specs.Lives.{LivesShared}
 use Rattle.mountd_options.specs.declared.command.HistoryOption.{HistoryOption}
 use Rattle.mountd_options.specs.declared.command.HistoryOption.TheVariants as keeping
@@ -45,7 +47,8 @@ module _ {W F S : Type 0} (w : Ghosts W) (f : Files F W) (fetched : S → Id →
     pub input : Known × Known
     pub output : Known × Known
     pub left : Ending F S
-    pub lived : Lives w f fetched copies limit base settings backing input output left
+    pub lived : Lives w f fetched limit base.root backing input output left
+    pub inside : LivesInside w f fetched copies limit base settings backing input output left
     pub told : status ≡ status_of left.outcome
 
   -- A mount was shown as a folder that looks so. The messages and their answers are the kernel's, of which contracts know
@@ -63,7 +66,8 @@ module _ {W F I O : Type 0} (w : Ghosts W) (f : Files F W) (i : Read I) (o : Wri
   -- a mount of many callers lived, whose history may become so long, and the status tells how that ended
   pub record IsSharedRun (base : Base) (settings : Settings) (files : F) (status : ℕ) : Type 0 where
     pub left : SharedEnding F
-    pub lived : LivesShared w f i o limit base settings files left
+    pub lived : LivesShared w f i o settings.passes limit base.root files left
+    pub inside : LivesSharedInside w f i o limit base settings files left
     pub told : status ≡ shared_status left.outcome
 
 module _ {W F V O : Type 0} (w : Ghosts W) (f : Files F W) (v : Receiver V) (o : Sender O) (Comes : Coming) (limit : ℕ) where
