@@ -26,7 +26,8 @@ use Rattle.eden_host.specs.Sharing.{HostsTable, terms_at}
 module _ {W F I O : Type 0} (w : Ghosts W) (f : Files F W) (r : Read I) (v : Write O)
     (limit : ℕ) (base : Base) (settings : Settings) (files : F) (left : SharedEnding F) where
   -- the first fault of hosting guests is none of the opening
-  lived : (hosted : Result ⊤ HostFault) (o : Option FilesFault) → IsHostedInside w f r v limit base settings files left → LivesSharedInsideBy w f r v limit (first_told hosted o) base settings files left
+  lived : (hosted : Result ⊤ HostFault) (o : Option FilesFault) → IsHostedInside w f r v limit base settings files left
+      → LivesSharedInsideBy w f r v limit (first_told hosted o) base settings files left
   lived (Err host.Listen) o h = h
   lived (Err (host.Session fault)) o h = h
   lived (Ok _) (Some why) h = h

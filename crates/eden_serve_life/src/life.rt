@@ -114,9 +114,10 @@ fn live_tied<
     requires empty { H.entries history ≡ [] }
     requires ties { AreTied ties.lanes.items ties.ends.items config.now.passes }
     requires names { names_of ties.lanes.items ≡ J.names }
-    ensures lives { LivesShared W.World F.Files I.Read O.Write config.now.passes (H.limit history) base.root backing.files
+    ensures lives { LivesShared W.World F.Files I.Read O.Write config.now.passes (H.limit history) base.root
+        backing.files result }
+    ensures inside { LivesSharedInside W.World F.Files I.Read O.Write (H.limit history) base config.now backing.files
         result }
-    ensures inside { LivesSharedInside W.World F.Files I.Read O.Write (H.limit history) base config.now backing.files result }
 {
     let Backing {
         files,
@@ -168,9 +169,10 @@ pub fn live_shared<
     requires files { W.honest → MayOpen base.opening W.repository W.opening W.numbers base.root
         (F.stored backing.files) }
     requires empty { H.entries history ≡ [] }
-    ensures lives { LivesShared W.World F.Files I.Read O.Write config.now.passes (H.limit history) base.root backing.files
+    ensures lives { LivesShared W.World F.Files I.Read O.Write config.now.passes (H.limit history) base.root
+        backing.files result }
+    ensures inside { LivesSharedInside W.World F.Files I.Read O.Write (H.limit history) base config.now backing.files
         result }
-    ensures inside { LivesSharedInside W.World F.Files I.Read O.Write (H.limit history) base config.now backing.files result }
 {
     let Ok(ties) = Ties::new(alloc, config.passes()) else {
         return unopened(OpenFault::Memory, backing.files);

@@ -24,7 +24,8 @@ host_table-hosted-requires-clause-ties g c = λ κs within.
 
 pub returns-in-Err-clause-inside : goal.returns-in-Err-clause-inside
 returns-in-Err-clause-inside g c =
-    subst (λ (x : SharedEnding _). LivesSharedInside g.W.World g.F.Files g.I.Read g.O.Write (g.H.History.limit c.args.history) c.args.base c.args.config.now c.args.backing.files x) (sym c.unopened.ensures)
+    subst (λ (x : SharedEnding _). LivesSharedInside g.W.World g.F.Files g.I.Read g.O.Write (g.H.History.limit c.args.history) c.args.base c.args.config.now c.args.backing.files x)
+    (sym c.unopened.ensures)
     (inl (record { refused = c.in-Err.ensures.refused; unclosed = refl }))
 
 pub returns-in-Ok-clause-inside : goal.returns-in-Ok-clause-inside
