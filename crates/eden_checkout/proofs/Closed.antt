@@ -12,7 +12,7 @@ use Rattle.eden_model.specs.Trees.{Path}
 use Rattle.eden_model.specs.Shown.{shown}
 use Rattle.eden_overlay_format.specs.declared.state.State.{State}
 use Rattle.eden_overlay_format.specs.declared.header.Identifier.TheVariants as identifier
-use Rattle.eden_overlay_format.specs.Stored.{written}
+use Rattle.eden_overlay_format.specs.Stored.{stored_as}
 use Rattle.eden_overlay_format.specs.State.{IsGoodState, state_body}
 use Rattle.eden_overlay_format.proofs.CallerLemmas.{state_written}
 use Rattle.eden_overlay.specs.declared.files.FilesFault.{FilesFault}
@@ -143,5 +143,5 @@ pub stored_alike : (R : Repository) (F G : Stored) (x z : Row) (next : ℕ) (s :
     → OnErr r (G ≡ F)
     → shown_in R G z ≡ shown_in R F x
 stored_alike R F G x z next s (Ok v) table kept root ok err =
-    ap (shown_in R G) root ∙ ap (λ (H : Stored). shown_in R H x) ok ∙ loose_alike R F x next 0 (Some (written identifier.File (state_body s))) table kept (the_state refl)
+    ap (shown_in R G) root ∙ ap (λ (H : Stored). shown_in R H x) ok ∙ loose_alike R F x next 0 (Some (stored_as identifier.File (state_body s))) table kept (the_state refl)
 stored_alike R F G x z next s (Err e) table kept root ok err = ap (shown_in R G) root ∙ ap (λ (H : Stored). shown_in R H x) err

@@ -15,7 +15,7 @@ use Rattle.eden_overlay_format.specs.declared.stored_entry.StoredEntry.{StoredEn
 use Rattle.eden_overlay_format.specs.Directory.{IsStorable}
 use Rattle.eden_overlay_format.specs.Values.{state_in}
 use Rattle.eden_overlay.specs.Counting.{root_from}
-use Rattle.eden_overlay.specs.Files.{Stored, Lists}
+use Rattle.eden_overlay.specs.Files.{Stored, ListsNumbers}
 use Rattle.eden_overlay.specs.Held.{HoldsState, without, root_file}
 use Rattle.eden_overlay.specs.Soundness.{Names, AreSound}
 use Rattle.eden_overlay.specs.Tidying.{IsOrphan, IsTidiedInPart, ListsOrphans, OthersStay}
@@ -145,7 +145,7 @@ closed_over F (inl none) = (record { bytes = [] }, inl none)
 closed_over F (inr (s, held)) = (s.root, inr (s, (held, refl)))
 
 -- no numbers are those of no files
-pub none_stored : (F : Stored) (ks : List ℕ) → Lists ks F → ks ≡ [] → AreNone F
+pub none_stored : (F : Stored) (ks : List ℕ) → ListsNumbers ks F → ks ≡ [] → AreNone F
 none_stored F ks lists empty k = by_file (F k) refl
   where
     by_file : (o : Option (List ℕ)) → F k ≡ o → F k ≡ None

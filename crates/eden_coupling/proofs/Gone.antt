@@ -6,7 +6,7 @@ use Rattle.eden_model.specs.Repository.{Repository, no_files}
 use Rattle.eden_model.specs.Trees.{Path}
 use Rattle.eden_overlay_format.specs.declared.stored_entry.StoredEntry.{StoredEntry}
 use Rattle.eden_overlay_format.specs.Directory.{AreStorable}
-use Rattle.eden_overlay.specs.Files.{Stored, put}
+use Rattle.eden_overlay.specs.Files.{Stored, with_file}
 use Rattle.eden_overlay.specs.Held.{HoldsEntries, root_file}
 use Rattle.eden_overlay.specs.Soundness.{Names, here, below, IsLive, AreSound}
 use Rattle.eden_overlay.proofs.CallerLemmas.{put_here, rootless_sound, entries_held, apart, one_held, numbers_from_two, root_same}
@@ -191,7 +191,7 @@ module _ (R : Repository) (F : Stored) (x : Row) (next : ℕ) (table : IsTable x
 
     -- as file 1 stands, if with numbers alone
     abbrev full3 : Stored
-    full3 = put k.full 1 (F 1)
+    full3 = with_file k.full 1 (F 1)
 
     same3 : full3 1 ≡ F 1
     same3 = put_here k.full 1 1 (F 1) refl

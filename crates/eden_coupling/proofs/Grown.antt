@@ -6,9 +6,9 @@ use Rattle.eden_model.specs.declared.kind.Kind.TheVariants as kind
 use Rattle.eden_model.specs.declared.kind.Origin.TheVariants as origin
 use Rattle.eden_overlay_format.specs.declared.header.Identifier.TheVariants as identifier
 use Rattle.eden_overlay_format.specs.declared.stored_entry.StoredEntry.{StoredEntry}
-use Rattle.eden_overlay_format.specs.Stored.{written}
+use Rattle.eden_overlay_format.specs.Stored.{stored_as}
 use Rattle.eden_overlay_format.specs.Directory.{AreStorable, directory_body}
-use Rattle.eden_overlay.specs.Files.{Stored, put}
+use Rattle.eden_overlay.specs.Files.{Stored, with_file}
 use Rattle.eden_overlay.specs.Held.{HoldsEntries, with_entries, root_file}
 use Rattle.eden_overlay.specs.Soundness.{Names, LeadsOn, here, below, IsLive, HoldsKind, AreSound}
 use Rattle.eden_overlay.specs.Laws.{IsStray, IsFresh}
@@ -94,10 +94,10 @@ abbrev pub AreFree : Stored → List StoredEntry → Type 0
 AreFree full new = (f : StoredEntry) → Contains new f → (c : ℕ) (e : StoredEntry) → IsLive full c → Names full c e → e.number ≢ f.number
 
 -- so they are where the file of a stray is another
-pub free_put : (full : Stored) (k : ℕ) (w : Option (List ℕ)) → IsStray full k → (new : List StoredEntry) → AreFree full new → AreFree (put full k w) new
+pub free_put : (full : Stored) (k : ℕ) (w : Option (List ℕ)) → IsStray full k → (new : List StoredEntry) → AreFree full new → AreFree (with_file full k w) new
 free_put full k w stray new free f there c e r n =
     let was = (live_stay full k w stray c).0 r in
-    free f there c e was (names_moved (put full k w) full c e (put_apart full k c w (λ is. live_apart full k stray c was (sym is))) n)
+    free f there c e was (names_moved (with_file full k w) full c e (put_apart full k c w (λ is. live_apart full k stray c was (sym is))) n)
 
 -- entries of numbers that nothing live names, below `after`, each once, and none its own
 pub record AreFresh (full : Stored) (after : ℕ) (new : List StoredEntry) : Type 0 where
@@ -187,10 +187,10 @@ module _ (full : Stored) (sound : AreSound full) (u : ℕ) (live : IsLive full u
     A = with_entries full k []
 
     a_live : (c : ℕ) → (IsLive A c → IsLive full c) × (IsLive full c → IsLive A c)
-    a_live c = live_stay full k (Some (written identifier.Directory (directory_body []))) stray c
+    a_live c = live_stay full k (Some (stored_as identifier.Directory (directory_body []))) stray c
 
     a_sound : AreSound A
-    a_sound = strays_stay full k (Some (written identifier.Directory (directory_body []))) stray sound
+    a_sound = strays_stay full k (Some (stored_as identifier.Directory (directory_body []))) stray sound
 
     a_at : HoldsEntries A k []
     a_at = entries_held full k [] no_entries

@@ -1,7 +1,7 @@
 -- Files that nothing loaded or live has as its own.
 use Rattle.std.proofs.Common.{◌≡◌, ◌≤◌, ℕ, None, sym, ◌∙◌, subst, arith}
 use Rattle.eden_model.specs.Repository.{Repository}
-use Rattle.eden_overlay.specs.Files.{Stored, put}
+use Rattle.eden_overlay.specs.Files.{Stored, with_file}
 use Rattle.eden_overlay.specs.Held.{without}
 use Rattle.eden_overlay.specs.Laws.{IsStray, IsUnnamed}
 use Rattle.eden_overlay.proofs.CallerLemmas.{put_apart, numbers_from_two}
@@ -46,18 +46,18 @@ module _ (R : Repository) (F : Stored) (x : Row) (next : ℕ) (table : IsTable x
 
 pub loose_kept : LooseKept
 loose_kept R F x next j w table k loose = record {
-  full = put k.full j w;
+  full = with_file k.full j w;
   ties = new_file_tied F k.full x next k.ties j w (stray R F x next table k j loose) (away R F x next table k j loose);
   agrees = k.agrees;
 }
 
 pub loose_sound : LooseSound
-loose_sound R F x next j w table k loose = let now = loose_kept R F x next j w table k loose in ties_sound (put F j w) now.full x next now.ties
+loose_sound R F x next j w table k loose = let now = loose_kept R F x next j w table k loose in ties_sound (with_file F j w) now.full x next now.ties
 
 pub loose_alike : LooseAlike
 loose_alike R F x next j w table k loose =
     let before : Backs F k.full x next = backs_tied F k.full x next k.ties in
-    backed_alike R F (put F j w) k.full x next before (backs_stray F (put F j w) k.full x next before j (stray R F x next table k j loose) (λ i ne. put_apart F j i w ne)) x top
+    backed_alike R F (with_file F j w) k.full x next before (backs_stray F (with_file F j w) k.full x next before j (stray R F x next table k j loose) (λ i ne. put_apart F j i w ne)) x top
 
 -- ---- the file of a number that nothing names may be taken out
 
@@ -70,7 +70,7 @@ module _ (F full : Stored) (x : Row) (next : ℕ) (t : Ties F full x next) (j : 
   unnamed_away v e (inside u c m q r i f) h is =
       unnamed u.number (full_entry (m, q)) (place_counts full x next t.fits u c r i) (named_full full x next t.fits u c m q r i f) is
 
-  pub taken_tied : Ties (without F j) (put full j None) x next
+  pub taken_tied : Ties (without F j) (with_file full j None) x next
   taken_tied = new_file_tied F full x next t j None unnamed_stray unnamed_away
 
   pub taken_alike : (R : Repository) → shown_in R (without F j) x ≡ shown_in R F x

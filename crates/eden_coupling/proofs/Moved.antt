@@ -8,7 +8,7 @@ use Rattle.eden_model.specs.Trees.{Name, Path}
 use Rattle.eden_model.specs.Named.{AreRising}
 use Rattle.eden_overlay_format.specs.declared.stored_entry.StoredEntry.{StoredEntry}
 use Rattle.eden_overlay_format.specs.Directory.{AreStorable}
-use Rattle.eden_overlay.specs.Files.{Stored, put}
+use Rattle.eden_overlay.specs.Files.{Stored, with_file}
 use Rattle.eden_overlay.specs.Held.{HoldsEntries, with_entries}
 use Rattle.eden_overlay.specs.Soundness.{Names, LeadsOn, Reached, here, below, IsLive, HoldsKind, AreSound}
 use Rattle.eden_overlay.specs.Laws.{Brings, IsStray, IsUnnamed, IsFresh, Drops, Moves}
@@ -373,35 +373,35 @@ move_tied F full x next t p y d n z at held own there shut are q u e m at_u held
 -- ---- a new file
 
 module _ (F full : Stored) (x : Row) (next : ℕ) (t : Ties F full x next) (k : ℕ) (w : Option (List ℕ)) (stray : IsStray full k) (away : IsAway x k) where
-  counted : (c : ℕ) → IsLive (put full k w) c → IsLive full c
+  counted : (c : ℕ) → IsLive (with_file full k w) c → IsLive full c
   counted c r = (live_stay full k w stray c).0 r
 
   not_k : (c : ℕ) → IsLive full c → k ≢ c
   not_k c here = stray.not_root
   not_k c (below b e r n leads) = λ is. stray.not_own b e r n leads.1 (sym is)
 
-  named_before : (c : ℕ) (e : StoredEntry) → IsLive full c → Names (put full k w) c e → Names full c e
-  named_before c e r n = names_moved (put full k w) full c e (put_apart full k c w (not_k c r)) n
+  named_before : (c : ℕ) (e : StoredEntry) → IsLive full c → Names (with_file full k w) c e → Names full c e
+  named_before c e r n = names_moved (with_file full k w) full c e (put_apart full k c w (not_k c r)) n
 
-  new_file : Ties (put F k w) (put full k w) x next
+  new_file : Ties (with_file F k w) (with_file full k w) x next
   new_file = record {
     fits = record {
       root = t.fits.root;
       sound = strays_stay full k w stray t.fits.sound;
       below = λ c e r n. t.fits.below c e (counted c r) (named_before c e (counted c r) n);
       is_dir = t.fits.is_dir;
-      held = λ y d p h. held_moved full (put full k w) y.number (full_listing d) (sym (put_apart full k y.number w (λ is. away y d p h (sym is)))) (t.fits.held y d p h);
+      held = λ y d p h. held_moved full (with_file full k w) y.number (full_listing d) (sym (put_apart full k y.number w (λ is. away y d p h (sym is)))) (t.fits.held y d p h);
     };
-    stored = λ y d p h o. stored_moved F (put F k w) y.number y.number d d (sym (put_apart F k y.number w (λ is. away y d p h (sym is)))) refl refl refl (t.stored y d p h o);
+    stored = λ y d p h o. stored_moved F (with_file F k w) y.number y.number d d (sym (put_apart F k y.number w (λ is. away y d p h (sym is)))) refl refl refl (t.stored y d p h o);
     marked = t.marked;
     same = λ c e r n o off.
         (let was = counted c r in
         let named = named_before c e was n in
         let ne : k ≢ e.number = λ is. stray.not_own c e was named o (sym is) in
-        same_moved F (put F k w) full (put full k w) e.number (put_apart F k e.number w ne) (put_apart full k e.number w ne) (t.same c e was named o off));
-    same_root = λ none. same_moved F (put F k w) full (put full k w) 1 (put_apart F k 1 w stray.not_root) (put_apart full k 1 w stray.not_root) (t.same_root none);
-    rootless = λ o. root_same (put F k w) F (put_apart F k 1 w stray.not_root) ∙ t.rootless o;
-    rooted = λ o. kind_moved F (put F k w) 1 kind.Dir (sym (put_apart F k 1 w stray.not_root)) (t.rooted o);
+        same_moved F (with_file F k w) full (with_file full k w) e.number (put_apart F k e.number w ne) (put_apart full k e.number w ne) (t.same c e was named o off));
+    same_root = λ none. same_moved F (with_file F k w) full (with_file full k w) 1 (put_apart F k 1 w stray.not_root) (put_apart full k 1 w stray.not_root) (t.same_root none);
+    rootless = λ o. root_same (with_file F k w) F (put_apart F k 1 w stray.not_root) ∙ t.rootless o;
+    rooted = λ o. kind_moved F (with_file F k w) 1 kind.Dir (sym (put_apart F k 1 w stray.not_root)) (t.rooted o);
   }
 
 pub new_file_tied : NewFileTied
@@ -493,10 +493,10 @@ none_in F k es e h g there =
 module _ (F full : Stored) (x : Row) (next : ℕ) (t : Ties F full x next) (p : Path) (y : Row) (d : Directory) (n : Name) (z : Row) (w : Option (List ℕ))
     (at : row_at p x ≡ Some y) (held : child_of y ≡ Some d)
     (free_name : MayGo d n) (shut : child_of z ≡ None) (least : 2 ≤ z.number) (given : z.number < next) (unnamed : IsUnnamed full z.number)
-    (filed : HoldsKind (put full z.number w) z.number z.kind) (empty : z.kind ≡ kind.Dir → HoldsEntries (put full z.number w) z.number [])
+    (filed : HoldsKind (with_file full z.number w) z.number z.kind) (empty : z.kind ≡ kind.Dir → HoldsEntries (with_file full z.number w) z.number [])
     (are : AreStorable (listing_of (changed d n (Some z)))) where
   abbrev full_file : Stored
-  full_file = put full z.number w
+  full_file = with_file full z.number w
 
   abbrev new_dir : Directory
   new_dir = changed d n (Some z)
@@ -511,7 +511,7 @@ module _ (F full : Stored) (x : Row) (next : ℕ) (t : Ties F full x next) (p : 
   stray_new : IsStray full z.number
   stray_new = record { not_root = λ is. omega (arith, least, is); not_own = λ c e r k o. unnamed c e r k }
 
-  pub tied_file : Ties (put F z.number w) full_file x next
+  pub tied_file : Ties (with_file F z.number w) full_file x next
   tied_file = new_file F full x next t z.number w stray_new away_new
 
   unnamed_now : IsUnnamed full_file z.number
@@ -526,7 +526,7 @@ module _ (F full : Stored) (x : Row) (next : ℕ) (t : Ties F full x next) (p : 
   only_its : (k : ℕ) → Brings full_file entry_new k → z.number ≡ k
   only_its k brings = elim brings [ inl is ↦ is | inr under ↦ absurd (none_below under.0 under.1.directory under.1.entry under.1.reached under.1.named) ]
 
-  pub carried_new : IsCarried (put F z.number w) full_file x next entry_new
+  pub carried_new : IsCarried (with_file F z.number w) full_file x next entry_new
   carried_new = record {
     below = λ k brings. subst (λ j. j < next) (only_its k brings) given;
     away = λ k brings. subst (λ j. IsAway x j) (only_its k brings) away_new;
@@ -574,9 +574,9 @@ module _ (F full : Stored) (x : Row) (next : ℕ) (t : Ties F full x next) (p : 
       ])
       tied_file.fits.sound
 
-  new_tied : y.origin ≡ origin.Own → Ties (with_entries (put F z.number w) y.number (listing_of new_dir)) (with_entries full_file y.number (full_listing new_dir)) (with_listing p new_dir x) next
-  new_tied own = entry_tied (put F z.number w) full_file x next tied_file p y d n (Some z) at held own free_name
-      (shut, (let P : StoredEntry → Type 0 = λ s. IsCarried (put F z.number w) full_file x next s in subst P (entry_as_is n z shut) carried_new)) are sound_new
+  new_tied : y.origin ≡ origin.Own → Ties (with_entries (with_file F z.number w) y.number (listing_of new_dir)) (with_entries full_file y.number (full_listing new_dir)) (with_listing p new_dir x) next
+  new_tied own = entry_tied (with_file F z.number w) full_file x next tied_file p y d n (Some z) at held own free_name
+      (shut, (let P : StoredEntry → Type 0 = λ s. IsCarried (with_file F z.number w) full_file x next s in subst P (entry_as_is n z shut) carried_new)) are sound_new
 
 pub new_entry_tied : NewEntryTied
 new_entry_tied F full x next t p y d n z w at held own free_name shut least given unnamed filed empty are =

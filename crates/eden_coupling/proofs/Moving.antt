@@ -7,7 +7,7 @@ use Rattle.eden_model.specs.Operations.{move}
 use Rattle.eden_model.specs.Repository.{Repository}
 use Rattle.eden_model.specs.Trees.{Name, Path, Tree, graft}
 use Rattle.eden_overlay_format.specs.declared.stored_entry.StoredEntry.{StoredEntry}
-use Rattle.eden_overlay.specs.Files.{Stored, put}
+use Rattle.eden_overlay.specs.Files.{Stored, with_file}
 use Rattle.eden_overlay.specs.Held.{with_entries, without}
 use Rattle.eden_overlay.specs.Laws.{IsUnnamed}
 use Rattle.eden_overlay.proofs.CallerLemmas.{apart, numbers_from_two}
@@ -176,10 +176,10 @@ module _ (honest : Type 0) (F : Stored) (x : Row) (next : ℕ) (p : Path) (n : N
         then_there = find_with m m (Some a.entry) a.target.rows (rising_of (full_between h) between next (tied_between h).fits a.to a.target (place_at q between a.to a.at_to) a.holds_target)
             ∙ ap (λ (b : Bool). cond b (Some a.entry) (find_row m a.target.rows)) (same-refl m)
 
-    removed : Ties (without (files_moved x p n q m a F) w.number) (put (full_then h) w.number None) (moved_in x p n q m a) next
+    removed : Ties (without (files_moved x p n q m a F) w.number) (with_file (full_then h) w.number None) (moved_in x p n q m a) next
     removed = taken_tied (files_moved x p n q m a F) (full_then h) (moved_in x p n q m a) next (tied_then h) w.number least unnamed_then
 
-    free_removed : (es : List StoredEntry) → AreFree (full_then h) es → AreFree (put (full_then h) w.number None) es
+    free_removed : (es : List StoredEntry) → AreFree (full_then h) es → AreFree (with_file (full_then h) w.number None) es
     free_removed = free_put (full_then h) w.number None
         (unnamed_stray (files_moved x p n q m a F) (full_then h) (moved_in x p n q m a) next (tied_then h) w.number least unnamed_then)
 
@@ -223,7 +223,7 @@ ReplacedTied = (F : Stored) (x : Row) (next : ℕ) (p : Path) (n : Name) (q : Pa
 
 pub replaced_tied : ReplacedTied
 replaced_tied F x next p n q m t a w stood =
-    (put (full_then (Unit {0}) F x next p n q m a (λ h. t) tt) w.number None, removed (Unit {0}) F x next p n q m a (λ h. t) tt w stood)
+    (with_file (full_then (Unit {0}) F x next p n q m a (λ h. t) tt) w.number None, removed (Unit {0}) F x next p n q m a (λ h. t) tt w stood)
 
 abbrev pub ReplacedKept : Type 0
 ReplacedKept = (R : Repository) (F : Stored) (x : Row) (next : ℕ) (p : Path) (n : Name) (q : Path) (m : Name) → IsTable x next → IsKept R F x next
@@ -232,7 +232,7 @@ ReplacedKept = (R : Repository) (F : Stored) (x : Row) (next : ℕ) (p : Path) (
 
 pub replaced_kept : ReplacedKept
 replaced_kept R F x next p n q m table k a w stood = record {
-  full = put (full_then (Unit {0}) F x next p n q m a (λ h. (k.full, k.ties)) tt) w.number None;
+  full = with_file (full_then (Unit {0}) F x next p n q m a (λ h. (k.full, k.ties)) tt) w.number None;
   ties = removed (Unit {0}) F x next p n q m a (λ h. (k.full, k.ties)) tt w stood;
   agrees = (moved_kept R F x next p n q m table k a).agrees;
 }

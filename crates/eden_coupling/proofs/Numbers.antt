@@ -9,7 +9,7 @@ use Rattle.eden_model.specs.Limits.{number_least}
 use Rattle.eden_model.specs.Trees.{Name, Path}
 use Rattle.eden_overlay_format.specs.Directory.{AreStorable}
 use Rattle.eden_overlay_format.specs.declared.stored_entry.StoredEntry.{StoredEntry}
-use Rattle.eden_overlay.specs.Files.{Stored, put}
+use Rattle.eden_overlay.specs.Files.{Stored, with_file}
 use Rattle.eden_overlay.specs.Held.{HoldsEntries, with_entries}
 use Rattle.eden_overlay.specs.Soundness.{Names, IsLive, HoldsKind, AreSound}
 use Rattle.eden_overlay.specs.Laws.{IsStray, IsFresh}
@@ -42,10 +42,10 @@ content_kind F k kind.Link kind.Exec other also h = h
 content_kind F k kind.Link kind.Link other also h = h
 
 -- a file put in as it is
-put_same : (F : Stored) (k : ℕ) → put F k (F k) ≡ F
+put_same : (F : Stored) (k : ℕ) → with_file F k (F k) ≡ F
 put_same F k = fun_ext at
   where
-    at : (j : ℕ) → put F k (F k) j ≡ F j
+    at : (j : ℕ) → with_file F k (F k) j ≡ F j
     at j = elim (same_or_apart k j) [ inl is ↦ put_here F k j (F k) is ∙ ap F is | inr off ↦ put_apart F k j (F k) off ]
 
 -- ---- in the place of a file or link of the same number
@@ -145,8 +145,8 @@ module _ (F full : Stored) (x : Row) (next : ℕ) (t : Ties F full x next) (y : 
   stray_away = away_row full x next t.fits y d n w place holds there shut_w
 
   -- so the files `full` may have it as it is stored
-  pub agreed : Ties F (put full w.number (F w.number)) x next
-  agreed = subst (λ (G : Stored). Ties G (put full w.number (F w.number)) x next) (put_same F w.number) (new_file_tied F full x next t w.number (F w.number) is_stray stray_away)
+  pub agreed : Ties F (with_file full w.number (F w.number)) x next
+  agreed = subst (λ (G : Stored). Ties G (with_file full w.number (F w.number)) x next) (put_same F w.number) (new_file_tied F full x next t w.number (F w.number) is_stray stray_away)
 
 -- ---- of a number that nothing had
 
@@ -154,7 +154,7 @@ module _ (F full : Stored) (x : Row) (next k : ℕ) (old : Ties F full x k) (t :
     (at : row_at p x ≡ Some y) (holds : child_of y ≡ Some d) (go : MayGo d n) (shut : child_of z ≡ None) (number : z.number ≡ k) (least : number_least ≤ z.number) (given : z.number < next)
     (filed : HoldsKind F z.number z.kind) (empty : z.kind ≡ kind.Dir → HoldsEntries F z.number []) (are : AreStorable (listing_of (changed d n (Some z)))) where
   abbrev pub full_then : Stored
-  full_then = put full z.number (F z.number)
+  full_then = with_file full z.number (F z.number)
 
   unnamed : (c : ℕ) (e : StoredEntry) → IsLive full c → Names full c e → e.number ≢ z.number
   unnamed c e r m is = let less = old.fits.below c e r m in omega (arith, less, is, number)

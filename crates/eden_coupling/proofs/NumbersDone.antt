@@ -18,7 +18,7 @@ use Rattle.eden_overlay_format.specs.declared.header.Identifier.TheVariants as i
 use Rattle.eden_overlay_format.specs.declared.state.State.{State}
 use Rattle.eden_overlay_format.specs.declared.stored_entry.StoredEntry.{StoredEntry}
 use Rattle.eden_overlay_format.specs.State.{state_body}
-use Rattle.eden_overlay_format.specs.Stored.{written}
+use Rattle.eden_overlay_format.specs.Stored.{stored_as}
 use Rattle.eden_overlay_format.specs.Values.{entries_in}
 use Rattle.eden_overlay_format.proofs.CallerLemmas.{written_found, other_has_none}
 use Rattle.eden_overlay.specs.Files.{Stored}
@@ -64,8 +64,8 @@ others_same F G x y d p es at holds is c away = ap (λ (H : Stored). H c) is ∙
 -- a content's file has no numbers
 content_has_none : (F : Stored) (k : ℕ) (content : List ℕ) (id : Id) → saved_at (with_content F k content) k id ≡ None
 content_has_none F k content id =
-    ap (option_and_then (numbers_of id)) (put_here F k k (Some (written identifier.File content)) refl)
-    ∙ ap (option_and_then (of_tree id)) (other_has_none identifier.File (written identifier.File content) content (written_found identifier.File content) (λ is. absurd (cc)))
+    ap (option_and_then (numbers_of id)) (put_here F k k (Some (stored_as identifier.File content)) refl)
+    ∙ ap (option_and_then (of_tree id)) (other_has_none identifier.File (stored_as identifier.File content) content (written_found identifier.File content) (λ is. absurd (cc)))
 
 nothing_saved : (F : Stored) (k : ℕ) (id : Id) → saved_at (without F k) k id ≡ None
 nothing_saved F k id = ap (option_and_then (numbers_of id)) (put_here F k k None refl)

@@ -12,7 +12,7 @@ use Rattle.eden_model.specs.Shown.{if_dir}
 use Rattle.eden_model.specs.Trees.{Path}
 use Rattle.eden_overlay_format.specs.declared.stored_entry.StoredEntry.{StoredEntry}
 use Rattle.eden_overlay_format.specs.Values.{entries_in}
-use Rattle.eden_overlay.specs.Files.{Stored, put}
+use Rattle.eden_overlay.specs.Files.{Stored, with_file}
 use Rattle.eden_overlay.specs.Held.{numbers_of, saved_at}
 use Rattle.eden_overlay.proofs.CallerLemmas.{put_apart, same_or_apart}
 use Rattle.eden_tree.specs.Directory.{Row, child_of}
@@ -105,9 +105,9 @@ only_dir kind.Link a b same = refl
 only_dir kind.Dir a b same = same refl
 
 module _ (R : Repository) (F : Stored) (x : Row) (next c : ℕ) (w : Option (List ℕ)) (k : KeepsNumbers R F x next) (unseen : IsUnseen F x c)
-    (none : (id : Id) → saved_at (put F c w) c id ≡ None) where
+    (none : (id : Id) → saved_at (with_file F c w) c id ≡ None) where
   abbrev G : Stored
-  G = put F c w
+  G = with_file F c w
 
   no_more : (j : ℕ) (id : Id) (es : List StoredEntry) → saved_at G j id ≡ Some es → saved_at F j id ≡ Some es
   no_more j id es had = elim (same_or_apart c j) [

@@ -19,9 +19,9 @@ use Rattle.eden_model.proofs.CallerLemmas.{name-named}
 use Rattle.eden_overlay_format.specs.declared.header.Identifier.TheVariants as identifier
 use Rattle.eden_overlay_format.specs.declared.stored_entry.StoredEntry.{StoredEntry}
 use Rattle.eden_overlay_format.specs.State.{state_body}
-use Rattle.eden_overlay_format.specs.Stored.{written}
+use Rattle.eden_overlay_format.specs.Stored.{stored_as}
 use Rattle.eden_overlay.specs.Counting.{root_from, listing_at, ListsEntry, Counts, top, inside, Counted, NumbersAreSound}
-use Rattle.eden_overlay.specs.Files.{Stored, put}
+use Rattle.eden_overlay.specs.Files.{Stored, with_file}
 use Rattle.eden_overlay.specs.Held.{root_file, numbers_of, saved_at}
 use Rattle.eden_overlay.specs.Rescanning.{IsNextOf}
 use Rattle.eden_overlay.specs.Tidying.{IsTidiedInPart}
@@ -187,8 +187,8 @@ found_keeps R F root x next at sound found most trees = record {
 }
 
 -- file 0, unless it has numbers
-state_stored : (R : Repository) (F : Stored) (x : Row) (next : ℕ) (w : Option (List ℕ)) → KeepsNumbers R F x next → ((id : Id) → saved_at (put F 0 w) 0 id ≡ None)
-    → SameNumbers R F x (put F 0 w) x next
+state_stored : (R : Repository) (F : Stored) (x : Row) (next : ℕ) (w : Option (List ℕ)) → KeepsNumbers R F x next → ((id : Id) → saved_at (with_file F 0 w) 0 id ≡ None)
+    → SameNumbers R F x (with_file F 0 w) x next
 state_stored R F x next w keeps none =
     let other = other_not_shown R F x next 0 keeps (inl refl) in
     unseen_file_keeps R F x next 0 w keeps (not_shown_unseen F x 0 other) none
@@ -197,7 +197,7 @@ pub state_goes : StateGoes
 state_goes R F x next keeps = state_stored R F x next None keeps (λ id. ap (option_and_then (numbers_of id)) (put_here F 0 0 None refl))
 
 pub state_comes : StateComes
-state_comes R F x next s keeps = state_stored R F x next (Some (written identifier.File (state_body s))) keeps (λ id. state_has_none F s id)
+state_comes R F x next s keeps = state_stored R F x next (Some (stored_as identifier.File (state_body s))) keeps (λ id. state_has_none F s id)
 
 -- ---- orphans
 

@@ -7,7 +7,7 @@ use Rattle.eden_model.specs.Numbers.{AreOnce}
 use Rattle.eden_model.specs.Repository.{Repository}
 use Rattle.eden_model.specs.Trees.{Path}
 use Rattle.eden_overlay_format.specs.declared.header.Identifier.TheVariants as identifier
-use Rattle.eden_overlay_format.specs.Stored.{written}
+use Rattle.eden_overlay_format.specs.Stored.{stored_as}
 use Rattle.eden_overlay_format.specs.Directory.{directory_body}
 use Rattle.eden_overlay_format.specs.Numbers.{numbers_body}
 use Rattle.eden_overlay_format.specs.Values.{entries_in}
@@ -36,7 +36,7 @@ module _ (R : Repository) (F : Stored) (x y : Row) (p : Path) (d : Directory) (i
   not_own own = let both : origin.Object id ≡ origin.Own = sym object ∙ own in absurd (cc)
 
   but : (c : ℕ) → c ≢ y.number → G c ≡ F c
-  but c ne = put_apart F y.number c (Some (written identifier.Numbers (numbers_body id (listing_of d)))) (λ is. ne (sym is))
+  but c ne = put_apart F y.number c (Some (stored_as identifier.Numbers (numbers_body id (listing_of d)))) (λ is. ne (sym is))
 
   unrooted : y.number ≡ 1 → root_file G ≡ None
   unrooted one = subst (λ (k : ℕ). root_file (with_numbers F k id (listing_of d)) ≡ None) (sym one) (root_has_numbers F id (listing_of d))
@@ -61,10 +61,10 @@ blank_rises F next later blank rises k id least = blank k id (omega (arith, leas
 
 pub blank_saved : BlankSaved
 blank_saved F next k id es blank below c i least =
-    ap (option_and_then (numbers_of i)) (put_apart F k c (Some (written identifier.Numbers (numbers_body id es))) (λ is. absurd (omega (arith, below, least, is)))) ∙ blank c i least
+    ap (option_and_then (numbers_of i)) (put_apart F k c (Some (stored_as identifier.Numbers (numbers_body id es))) (λ is. absurd (omega (arith, below, least, is)))) ∙ blank c i least
 
 pub blank_stored : BlankStored
 blank_stored F next k es blank c i least = elim (same_or_apart k c) [
   | inl is ↦ subst (λ (j : ℕ). saved_at (with_entries F k es) j i ≡ None) is (entries_have_none F k i es)
-  | inr ne ↦ ap (option_and_then (numbers_of i)) (put_apart F k c (Some (written identifier.Directory (directory_body es))) ne) ∙ blank c i least
+  | inr ne ↦ ap (option_and_then (numbers_of i)) (put_apart F k c (Some (stored_as identifier.Directory (directory_body es))) ne) ∙ blank c i least
 ]

@@ -8,7 +8,7 @@ use Rattle.eden_model.specs.Named.{AreRising}
 use Rattle.eden_model.specs.Repository.{Repository}
 use Rattle.eden_model.specs.Trees.{Name, Path, graft}
 use Rattle.eden_overlay_format.specs.Directory.{AreStorable, is_own}
-use Rattle.eden_overlay.specs.Files.{Stored, put}
+use Rattle.eden_overlay.specs.Files.{Stored, with_file}
 use Rattle.eden_overlay.specs.Held.{with_entries, without}
 use Rattle.eden_overlay.specs.Laws.{IsUnnamed}
 use Rattle.eden_overlay.specs.Soundness.{HoldsKind, AreSound}
@@ -87,7 +87,7 @@ module _ (honest : Type 0) (R : Repository) (F : Stored) (x : Row) (next : ℕ) 
       -- its own now, and not before
       now_own : HoldsKind F z.number z.kind → w.origin ≢ origin.Own → Stands F x next y d n (Some z)
       now_own held other =
-          let full = put k.full w.number (F w.number) in
+          let full = with_file k.full w.number (F w.number) in
           let t : Ties F full x next = agreed F k.full x next k.ties y d place holds n w there shut_w other in
           let same : F z.number ≡ full z.number = ap F number ∙ sym (put_here k.full w.number z.number (F w.number) (sym number)) in
           record {
@@ -283,7 +283,7 @@ module _ (honest : Type 0) (R : Repository) (F : Stored) (x : Row) (next : ℕ) 
   nothing_names : IsUnnamed full_left w.number
   nothing_names = gone_unnamed F k.full x next k.ties p a.row a.directory a.at a.holds n a.may_go a.storable w there
 
-  removed_ties : Ties (without G w.number) (put full_left w.number None) (chained p left x) next
+  removed_ties : Ties (without G w.number) (with_file full_left w.number None) (chained p left x) next
   removed_ties = taken_tied G full_left (chained p left x) next ties_left w.number gone_least nothing_names
 
 abbrev pub RemovedSound : Type 1
@@ -294,7 +294,7 @@ RemovedSound = (honest : Type 0) (R : Repository) (F : Stored) (x : Row) (next :
 
 pub removed_sound : RemovedSound
 removed_sound honest R F x next p n h table k a w there G up =
-    ties_sound (without G w.number) (put (full_left honest R F x next p n h table k a w there G up) w.number None) (chained p (changed a.directory n None) x) next
+    ties_sound (without G w.number) (with_file (full_left honest R F x next p n h table k a w there G up) w.number None) (chained p (changed a.directory n None) x) next
     (removed_ties honest R F x next p n h table k a w there G up)
 
 abbrev pub RemovedKept : Type 1
@@ -305,7 +305,7 @@ RemovedKept = (honest : Type 0) (R : Repository) (F : Stored) (x : Row) (next : 
 
 pub removed_kept : RemovedKept
 removed_kept honest R F x next p n h table k a w there G up = record {
-  full = put (full_left honest R F x next p n h table k a w there G up) w.number None;
+  full = with_file (full_left honest R F x next p n h table k a w there G up) w.number None;
   ties = removed_ties honest R F x next p n h table k a w there G up;
   agrees = (stands_kept honest R F x next p n None h table k a G up).agrees;
 }

@@ -5,7 +5,7 @@ use Rattle.eden_model.specs.declared.kind.Origin.TheVariants as origin
 use Rattle.eden_model.specs.Trees.{Name, Path}
 use Rattle.eden_overlay_format.specs.declared.stored_entry.StoredEntry.{StoredEntry}
 use Rattle.eden_overlay_format.specs.Directory.{AreStorable}
-use Rattle.eden_overlay.specs.Files.{Stored, put}
+use Rattle.eden_overlay.specs.Files.{Stored, with_file}
 use Rattle.eden_overlay.specs.Held.{HoldsEntries, with_entries}
 use Rattle.eden_overlay.specs.Soundness.{Names, LeadsOn, Reached, HoldsKind, AreSound}
 use Rattle.eden_overlay.specs.Laws.{Brings, IsStray, IsUnnamed}
@@ -116,7 +116,7 @@ MoveTied = (F full : Stored) (x : Row) (next : ℕ) → Ties F full x next
 -- a new file, of a number that nothing loaded or stored has as its own, leaves the table tied
 abbrev pub NewFileTied : Type 0
 NewFileTied = (F full : Stored) (x : Row) (next : ℕ) → Ties F full x next
-    → (k : ℕ) (w : Option (List ℕ)) → IsStray full k → IsAway x k → Ties (put F k w) (put full k w) x next
+    → (k : ℕ) (w : Option (List ℕ)) → IsStray full k → IsAway x k → Ties (with_file F k w) (with_file full k w) x next
 
 -- ---- from one directory to another
 
@@ -174,7 +174,7 @@ abbrev pub NewEntryTied : Type 0
 NewEntryTied = (F full : Stored) (x : Row) (next : ℕ) → Ties F full x next
     → (p : Path) (y : Row) (d : Directory) (n : Name) (z : Row) (w : Option (List ℕ)) → row_at p x ≡ Some y → child_of y ≡ Some d → y.origin ≡ origin.Own
     → MayGo d n → child_of z ≡ None → 2 ≤ z.number → z.number < next → IsUnnamed full z.number
-    → HoldsKind (put full z.number w) z.number z.kind → (z.kind ≡ kind.Dir → HoldsEntries (put full z.number w) z.number [])
+    → HoldsKind (with_file full z.number w) z.number z.kind → (z.kind ≡ kind.Dir → HoldsEntries (with_file full z.number w) z.number [])
     → AreStorable (listing_of (changed d n (Some z)))
-    → Ties (with_entries (put F z.number w) y.number (listing_of (changed d n (Some z))))
-    (with_entries (put full z.number w) y.number (full_listing (changed d n (Some z)))) (with_listing p (changed d n (Some z)) x) next
+    → Ties (with_entries (with_file F z.number w) y.number (listing_of (changed d n (Some z))))
+    (with_entries (with_file full z.number w) y.number (full_listing (changed d n (Some z)))) (with_listing p (changed d n (Some z)) x) next

@@ -3,7 +3,7 @@ use Rattle.std.specs.Prelude.{◌≡◌, ◌≢◌, ◌≤◌, ℕ, List, Option
 use Rattle.eden_model.specs.declared.kind.Origin.TheVariants as origin
 use Rattle.eden_model.specs.Repository.{Repository}
 use Rattle.eden_model.specs.Trees.{Name, Path}
-use Rattle.eden_overlay.specs.Files.{Stored, put}
+use Rattle.eden_overlay.specs.Files.{Stored, with_file}
 use Rattle.eden_overlay.specs.Soundness.{AreSound}
 use Rattle.eden_tree.specs.Directory.{Row, Directory, child_of}
 use Rattle.eden_tree.specs.Rows.{find_row}
@@ -21,12 +21,12 @@ pub data IsLoose (x : Row) (next k : ℕ) : Type 0 where
 -- such a file may be stored, changed or taken out: the files stay sound, the table kept, and the same is shown
 abbrev pub LooseSound : Type 0
 LooseSound = (R : Repository) (F : Stored) (x : Row) (next k : ℕ) (w : Option (List ℕ)) → IsTable x next → IsKept R F x next → IsLoose x next k
-    → AreSound (put F k w)
+    → AreSound (with_file F k w)
 
 abbrev pub LooseKept : Type 0
 LooseKept = (R : Repository) (F : Stored) (x : Row) (next k : ℕ) (w : Option (List ℕ)) → IsTable x next → IsKept R F x next → IsLoose x next k
-    → IsKept R (put F k w) x next
+    → IsKept R (with_file F k w) x next
 
 abbrev pub LooseAlike : Type 0
 LooseAlike = (R : Repository) (F : Stored) (x : Row) (next k : ℕ) (w : Option (List ℕ)) → IsTable x next → IsKept R F x next → IsLoose x next k
-    → shown_in R (put F k w) x ≡ shown_in R F x
+    → shown_in R (with_file F k w) x ≡ shown_in R F x

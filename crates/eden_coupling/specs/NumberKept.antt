@@ -12,7 +12,7 @@ use Rattle.eden_model.specs.Operations.{put, move}
 use Rattle.eden_model.specs.Repository.{Repository, no_files}
 use Rattle.eden_model.specs.Trees.{Name, Path}
 use Rattle.eden_overlay_format.specs.Directory.{AreStorable}
-use Rattle.eden_overlay.specs.Files.{Stored, put as with_file}
+use Rattle.eden_overlay.specs.Files.{Stored, with_file}
 use Rattle.eden_overlay.specs.Held.{saved_at}
 use Rattle.eden_tree.specs.Directory.{Row, Directory, child_of}
 use Rattle.eden_tree.specs.Rows.{find_row}

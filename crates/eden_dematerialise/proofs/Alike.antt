@@ -10,7 +10,7 @@ use Rattle.eden_overlay_format.specs.declared.state.State.{State}
 use Rattle.eden_overlay_format.specs.declared.stored_entry.StoredEntry.{StoredEntry}
 use Rattle.eden_overlay_format.specs.Directory.{AreStorable, directory_body}
 use Rattle.eden_overlay_format.specs.Numbers.{has_numbers}
-use Rattle.eden_overlay_format.specs.Stored.{written}
+use Rattle.eden_overlay_format.specs.Stored.{stored_as}
 use Rattle.eden_overlay_format.specs.Values.{content_in, entries_in, numbers_in}
 use Rattle.eden_overlay_format.proofs.CallerLemmas.{entries_are_plain, numbers_stand}
 use Rattle.eden_overlay.specs.Files.{Stored}
@@ -81,7 +81,7 @@ module _ (R : Repository) where
     then_held = entries_held F d ts (all_storable R F es ts s are)
 
     apart : (k : ℕ) → d ≢ k → G k ≡ F k
-    apart k ne = put_apart F d k (Some (written identifier.Directory (directory_body ts))) ne
+    apart k ne = put_apart F d k (Some (stored_as identifier.Directory (directory_body ts))) ne
 
     rooted : is_some (root_file G) ≡ is_some (root_file F)
     rooted = elim (same_or_apart d 1) [

@@ -12,9 +12,9 @@ use Rattle.eden_overlay_format.specs.declared.state.State.{State}
 use Rattle.eden_overlay_format.specs.declared.stored_entry.StoredEntry.{StoredEntry}
 use Rattle.eden_overlay_format.specs.Directory.{directory_body}
 use Rattle.eden_overlay_format.specs.declared.header.Identifier.TheVariants as identifier
-use Rattle.eden_overlay_format.specs.Stored.{written}
+use Rattle.eden_overlay_format.specs.Stored.{stored_as}
 use Rattle.eden_overlay.specs.declared.files.FilesFault.{FilesFault}
-use Rattle.eden_overlay.specs.Files.{Stored, put}
+use Rattle.eden_overlay.specs.Files.{Stored, with_file}
 use Rattle.eden_overlay.specs.Held.{HoldsEntries, entries_at, with_state}
 use Rattle.eden_overlay.specs.Soundness.{LeadsOn, Names}
 use Rattle.eden_overlay.proofs.CallerLemmas.{entries_held, held_storable, numbers_from_two, one_held}
@@ -168,11 +168,11 @@ module _ (R : Repository) where
   -- ---- what was stored is held
 
   pub held_so : (r : Result (Unit {0}) FilesFault) (F G : Stored) (d : ℕ) (bytes : List ℕ) (ts : List StoredEntry) (P : List StoredEntry → Type 0)
-      → OnOk r (G ≡ put F d (Some bytes)) → bytes ≡ written identifier.Directory (directory_body ts)
+      → OnOk r (G ≡ with_file F d (Some bytes)) → bytes ≡ stored_as identifier.Directory (directory_body ts)
       → OnOk r ((commit : List TreeEntry) (es : List StoredEntry) → HoldsEntries F d es → Stand R F commit es ts → P es → HoldsEntries G d ts)
   held_so (Err e) F G d bytes ts P ok is = tt
   held_so (Ok v) F G d bytes ts P ok is = λ commit es held stand unchanged.
-      subst (λ (X : Stored). HoldsEntries X d ts) (sym (ok ∙ ap (λ b. put F d (Some b)) is))
+      subst (λ (X : Stored). HoldsEntries X d ts) (sym (ok ∙ ap (λ b. with_file F d (Some b)) is))
       (entries_held F d ts (all_storable R F es ts stand (held_storable F d es held)))
 
   -- ---- one entry more

@@ -11,11 +11,11 @@ use Rattle.eden_overlay_format.specs.declared.state.State.{State}
 use Rattle.eden_overlay_format.specs.declared.stored_entry.StoredEntry.{StoredEntry}
 use Rattle.eden_overlay_format.specs.Directory.{directory_body}
 use Rattle.eden_overlay_format.specs.State.{IsGoodState}
-use Rattle.eden_overlay_format.specs.Stored.{written}
+use Rattle.eden_overlay_format.specs.Stored.{stored_as}
 use Rattle.eden_overlay_format.specs.Values.{state_in}
 use Rattle.eden_overlay_format.proofs.CallerLemmas.{state_written}
 use Rattle.eden_overlay.specs.declared.files.FilesFault.{FilesFault}
-use Rattle.eden_overlay.specs.Files.{Stored, put}
+use Rattle.eden_overlay.specs.Files.{Stored, with_file}
 use Rattle.eden_overlay.specs.Counting.{NumbersAreSound, root_from}
 use Rattle.eden_overlay.specs.Held.{HoldsEntries, HoldsState, root_file, with_entries, with_state}
 use Rattle.eden_overlay.specs.Soundness.{AreSound}
@@ -42,10 +42,10 @@ module _ (R : Repository) where
 
   -- .. whether it could be stored or not
   pub stored_or_not : (r : Result (Unit {0}) FilesFault) (top : ℕ) (to : Id) (F G : Stored) (d : ℕ) (tree : Id) (commit : List TreeEntry) (bytes : List ℕ)
-      (es ts : List StoredEntry) → OnOk r (G ≡ put F d (Some bytes)) → OnErr r (G ≡ F) → bytes ≡ written identifier.Directory (directory_body ts)
+      (es ts : List StoredEntry) → OnOk r (G ≡ with_file F d (Some bytes)) → OnErr r (G ≡ F) → bytes ≡ stored_as identifier.Directory (directory_body ts)
       → 1 ≤ d → Leads R F top to d tree → R.tree tree ≡ Some commit → HoldsEntries F d es → Stand R F commit es ts → Dematerialises R top to F G
   stored_or_not (Ok v) top to F G d tree commit bytes es ts ok err is least leads had held stand =
-      one top to F G d tree commit es ts least leads had held stand (ok ∙ ap (λ b. put F d (Some b)) is)
+      one top to F G d tree commit es ts least leads had held stand (ok ∙ ap (λ b. with_file F d (Some b)) is)
   stored_or_not (Err e) top to F G d tree commit bytes es ts ok err is least leads had held stand = nothing top to F G err
 
   -- what stays, whatever was dematerialised
@@ -72,7 +72,7 @@ module _ (R : Repository) where
         sound = λ s. sound_stays R G H alike (was.sound s);
         numbers = λ root s. numbers_stay R G H alike root root (same_from root (root_file G) (root_file H) alike.root) (was.numbers root s);
         root = alike.root ∙ was.root;
-        state = put_apart G d 0 (Some (written identifier.Directory _)) (λ is. let d_is = is in absurd (omega (arith, d_is, least))) ∙ was.state;
+        state = put_apart G d 0 (Some (stored_as identifier.Directory _)) (λ is. let d_is = is in absurd (omega (arith, d_is, least))) ∙ was.state;
       }
 
   -- ---- the state

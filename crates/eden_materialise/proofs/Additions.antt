@@ -9,7 +9,7 @@ use Rattle.eden_model.specs.Names.{name_refusal}
 use Rattle.eden_model.specs.Trees.{Name, Path, graft}
 use Rattle.eden_overlay_format.specs.Directory.{AreStorable, IsStorable}
 use Rattle.eden_overlay_format.specs.Values.{content_in, entries_in}
-use Rattle.eden_overlay.specs.Files.{Stored, put}
+use Rattle.eden_overlay.specs.Files.{Stored, with_file}
 use Rattle.eden_overlay.specs.Held.{HoldsEntries, with_entries}
 use Rattle.eden_overlay.specs.Soundness.{HoldsKind, AreSound}
 use Rattle.eden_overlay.proofs.CallerLemmas.{moved, contents_held, entries_held}
@@ -43,7 +43,7 @@ unfolding IsStrictlySortedBy
 nothing_storable = record { count = omega arith; rising = tt; each = tt }
 
 -- its file is one that was put in
-own_put : (F : Stored) (k : ℕ) (e : NewEntry) → (w : Option (List ℕ)) × (with_own F k e ≡ put F k w)
+own_put : (F : Stored) (k : ℕ) (e : NewEntry) → (w : Option (List ℕ)) × (with_own F k e ≡ with_file F k w)
 own_put F k (new.File x content) = (_, refl)
 own_put F k (new.Link target) = (_, refl)
 own_put F k new.Dir = (_, refl)

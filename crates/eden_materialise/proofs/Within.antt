@@ -5,7 +5,7 @@ use Rattle.std.specs.Option.{option_map}
 use Rattle.std.proofs.lemmas.Option.{same_Some}
 use Rattle.eden_model.specs.Trees.{Name, Path}
 use Rattle.eden_model.specs.Named.{AreRising}
-use Rattle.eden_overlay.specs.Files.{Stored, put}
+use Rattle.eden_overlay.specs.Files.{Stored, with_file}
 use Rattle.eden_overlay.specs.Held.{HoldsEntries, with_entries}
 use Rattle.eden_tree.specs.Directory.{Row, Directory, child_of, with_child}
 use Rattle.eden_tree.specs.Paths.{row_at, edit_row}
@@ -22,7 +22,7 @@ use Rattle.eden_materialise.proofs.Putting.{put_there}
 use Rattle.eden_materialise.proofs.Swapped.{drop_placed}
 
 -- a file that is stored twice is stored once
-put_twice : (F : Stored) (k : ℕ) (v w : Option (List ℕ)) → put (put F k v) k w ≡ put F k w
+put_twice : (F : Stored) (k : ℕ) (v w : Option (List ℕ)) → with_file (with_file F k v) k w ≡ with_file F k w
 put_twice F k v w = fun_ext (λ q. elim (k == q) as (λ b. cond b w (cond b v (F q)) ≡ cond b w (F q)) [ true ↦ refl | false ↦ refl ])
 
 module _ (x : Row) (p : Path) (n m : Name) (may : MayMove x p n p m) (rising : AreRising (λ r. r.0) may.source.rows) (differ : n ≢ m) where
@@ -47,28 +47,28 @@ module _ (x : Row) (p : Path) (n m : Name) (may : MayMove x p n p m) (rising : A
   moved_once : moved_in x p n p m may ≡ edit_row p (with_child (Some new)) x
   moved_once = edits_twice p (with_child (Some new)) (with_child (Some left)) x
 
-  module _ (w : Row) (same : w ≡ may.entry) (entry : Option Row) (mark : Bool) (z : Row) (put : IsPutAt p m w entry mark x z) where
-    before_is : put.before ≡ may.from
-    before_is = same_Some put.before may.from (sym put.at ∙ may.at_from)
+  module _ (w : Row) (same : w ≡ may.entry) (entry : Option Row) (mark : Bool) (z : Row) (with_file : IsPutAt p m w entry mark x z) where
+    before_is : with_file.before ≡ may.from
+    before_is = same_Some with_file.before may.from (sym with_file.at ∙ may.at_from)
 
-    directory_is : put.put.directory ≡ may.source
-    directory_is = same_Some put.put.directory may.source (sym put.put.holds ∙ ap child_of before_is ∙ may.holds_source)
+    directory_is : with_file.put.directory ≡ may.source
+    directory_is = same_Some with_file.put.directory may.source (sym with_file.put.holds ∙ ap child_of before_is ∙ may.holds_source)
 
     abbrev with_both : Directory
-    with_both = changed put.put.directory m (Some w)
+    with_both = changed with_file.put.directory m (Some w)
 
     with_both_is : with_both ≡ changed may.source m (Some may.entry)
-    with_both_is = ap (λ (v : Row). changed put.put.directory m (Some v)) same ∙ ap (λ (d : Directory). changed d m (Some may.entry)) directory_is
+    with_both_is = ap (λ (v : Row). changed with_file.put.directory m (Some v)) same ∙ ap (λ (d : Directory). changed d m (Some may.entry)) directory_is
 
-    pub holds_both : child_of put.after ≡ Some with_both
-    holds_both = ap child_of put.put.is ∙ child_of-with_child (Some with_both) put.before
+    pub holds_both : child_of with_file.after ≡ Some with_both
+    holds_both = ap child_of with_file.put.is ∙ child_of-with_child (Some with_both) with_file.before
 
-    after_at : (y : Row) → row_at p z ≡ Some y → put.after ≡ y
-    after_at y at = same_Some put.after y (sym (put_there p m w entry mark x z put) ∙ at)
+    after_at : (y : Row) → row_at p z ≡ Some y → with_file.after ≡ y
+    after_at y at = same_Some with_file.after y (sym (put_there p m w entry mark x z with_file) ∙ at)
 
     -- what is stored of it
     pub stored_number : (y : Row) → row_at p z ≡ Some y → y.number ≡ may.from.number
-    stored_number y at = ap (λ (a : Row). a.number) (sym (after_at y at) ∙ put.put.is) ∙ ap (λ (a : Row). a.number) before_is
+    stored_number y at = ap (λ (a : Row). a.number) (sym (after_at y at) ∙ with_file.put.is) ∙ ap (λ (a : Row). a.number) before_is
 
     pub stored_listing : (y : Row) (d : Directory) → row_at p z ≡ Some y → child_of y ≡ Some d → listing_of (changed d n None) ≡ listing_of new
     stored_listing y d at h =
@@ -103,9 +103,9 @@ module _ (x : Row) (p : Path) (n m : Name) (may : MayMove x p n p m) (rising : A
     -- memory then
     pub renamed : edit_row p (changed_in n None) z ≡ moved_in x p n p m may
     renamed =
-        ap (edit_row p (changed_in n None)) put.is ∙ edits_twice p (changed_in n None) (λ _. put.after) x
-        ∙ edits_alike p (λ _. changed_in n None put.after) (with_child (Some new)) x may.from may.at_from
-        (changed_held n None put.after with_both holds_both
-        ∙ ap (λ (a : Row). with_child (Some (changed with_both n None)) a) (put.put.is ∙ ap (with_child (Some with_both)) before_is)
+        ap (edit_row p (changed_in n None)) with_file.is ∙ edits_twice p (changed_in n None) (λ _. with_file.after) x
+        ∙ edits_alike p (λ _. changed_in n None with_file.after) (with_child (Some new)) x may.from may.at_from
+        (changed_held n None with_file.after with_both holds_both
+        ∙ ap (λ (a : Row). with_child (Some (changed with_both n None)) a) (with_file.put.is ∙ ap (with_child (Some with_both)) before_is)
         ∙ ap (λ (d : Directory). with_child (Some d) may.from) (ap (λ (e : Directory). changed e n None) with_both_is ∙ new_is))
         ∙ sym moved_once

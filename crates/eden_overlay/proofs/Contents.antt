@@ -4,7 +4,7 @@ use Rattle.eden_model.specs.declared.kind.Kind.{Kind}
 use Rattle.eden_model.specs.declared.kind.Kind.TheVariants as kind
 use Rattle.eden_overlay_format.specs.declared.header.Identifier.TheVariants as identifier
 use Rattle.eden_overlay_format.specs.declared.stored_entry.StoredEntry.{StoredEntry}
-use Rattle.eden_overlay_format.specs.Stored.{written}
+use Rattle.eden_overlay_format.specs.Stored.{stored_as}
 use Rattle.eden_overlay_format.specs.Content.{content_most}
 use Rattle.eden_overlay.specs.Files.{Stored}
 use Rattle.eden_overlay.specs.Held.{HoldsContent, root_file, with_content}
@@ -29,7 +29,7 @@ module _ (F : Stored) (k : ℕ) (old new : List ℕ) (was : HoldsContent F k old
   now = contents_held F k new short
 
   apart : (q : ℕ) → k ≢ q → with_content F k new q ≡ F q
-  apart q ne = put_apart F k q (Some (written identifier.File new)) ne
+  apart q ne = put_apart F k q (Some (stored_as identifier.File new)) ne
 
   -- neither before nor after is file k a directory
   no_directory : (d : ℕ) (e : StoredEntry) → Names (with_content F k new) d e → k ≢ d

@@ -21,7 +21,7 @@ use Rattle.eden_overlay_format.specs.declared.stored_entry.StoredEntry.{StoredEn
 use Rattle.eden_overlay_format.specs.Directory.{is_own, IsStorable, AreStorable}
 use Rattle.eden_overlay_format.specs.Numbers.{none_is_own, has_numbers}
 use Rattle.eden_overlay_format.specs.State.{state_body}
-use Rattle.eden_overlay_format.specs.Stored.{identifier_bytes, written, Refuses}
+use Rattle.eden_overlay_format.specs.Stored.{identifier_bytes, stored_as, Refuses}
 use Rattle.eden_overlay_format.specs.Values.{numbers_in, FailsWith}
 use Rattle.eden_overlay_format.proofs.CallerLemmas.{numbers_good, numbers_stand, first_tells, written_starts}
 use Rattle.eden_overlay.specs.Files.{Stored}
@@ -97,7 +97,7 @@ module _ (F : Stored) (k : ℕ) (tree : Id) (bytes : List ℕ) (stored : F k ≡
 -- the state's file has none
 pub state_has_none : (F : Stored) (s : State) (tree : Id) → saved_at (with_state F s) 0 tree ≡ None
 state_has_none F s tree =
-    let file = written identifier.File (state_body s) in
+    let file = stored_as identifier.File (state_body s) in
     let plain : has_numbers file ≡ false =
     ap (λ (four : List ℕ). nat_le 64 (length file) && bytes_eq four (identifier_bytes identifier.Numbers)) (written_starts identifier.File (state_body s))
     ∙ and-false (nat_le 64 (length file)) in

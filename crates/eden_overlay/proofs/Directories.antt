@@ -4,7 +4,7 @@ use Rattle.eden_model.specs.declared.kind.Kind.{Kind}
 use Rattle.eden_model.specs.declared.kind.Kind.TheVariants as kind
 use Rattle.eden_overlay_format.specs.declared.header.Identifier.TheVariants as identifier
 use Rattle.eden_overlay_format.specs.declared.stored_entry.StoredEntry.{StoredEntry}
-use Rattle.eden_overlay_format.specs.Stored.{written}
+use Rattle.eden_overlay_format.specs.Stored.{stored_as}
 use Rattle.eden_overlay_format.specs.Directory.{AreStorable, directory_body}
 use Rattle.eden_overlay.specs.Files.{Stored}
 use Rattle.eden_overlay.specs.Held.{root_file, HoldsEntries, with_entries}
@@ -26,7 +26,7 @@ module _ (F : Stored) (d : ℕ) (new : List StoredEntry) (are : AreStorable new)
   now = entries_held F d new are
 
   pub apart : (q : ℕ) → d ≢ q → with_entries F d new q ≡ F q
-  apart q ne = put_apart F d q (Some (written identifier.Directory (directory_body new))) ne
+  apart q ne = put_apart F d q (Some (stored_as identifier.Directory (directory_body new))) ne
 
   -- a directory other than d names what it named, and d what was stored
   pub named : (c : ℕ) (e : StoredEntry) → Names (with_entries F d new) c e → ((d ≡ c) × Contains new e) ⊎ ((d ≢ c) × Names F c e)

@@ -11,7 +11,7 @@ use Rattle.std.specs.BTreeMap.{BTreeMap, is_at, get, keys, ContainsKey, Updates}
 use Rattle.std.proofs.lemmas.Bool.Decides.{nat_tests, Decides-eqb}
 use Rattle.std.proofs.lemmas.Map.Made.{is_member-Decides}
 use Rattle.eden_overlay.specs.declared.memory.FileBytes.{FileBytes}
-use Rattle.eden_overlay.specs.Files.{Lists, put}
+use Rattle.eden_overlay.specs.Files.{ListsNumbers, with_file}
 use Rattle.eden_overlay.specs.InMemory.{bytes_in_memory, files_of, stored_in}
 
 pub is_at-nat_cmp : (k q : ℕ) → is_at (nat_cmp k) q ≡ (k == q)
@@ -30,7 +30,7 @@ stored_in-files_of (e ∷ es) k =
 
 -- a change of the map at a number is a change of what is stored there
 pub stored_in-updates : (m n : BTreeMap ℕ (FileBytes)) (k : ℕ) (w : Option (FileBytes)) → Updates nat_cmp m n k w
-    → stored_in (files_of n.entries) ≡ put (stored_in (files_of m.entries)) k (option_map bytes_in_memory w)
+    → stored_in (files_of n.entries) ≡ with_file (stored_in (files_of m.entries)) k (option_map bytes_in_memory w)
 stored_in-updates m n k w h =
     let items : Option (FileBytes) → Option (List ℕ) = λ o. option_map bytes_in_memory o in
     fun_ext (λ q. stored_in-files_of n.entries q ∙ ap items (h.0 q) ∙ sym
@@ -50,7 +50,7 @@ Decides-eq_by_cmp k q = rw (is_at-nat_cmp k q) (Decides-eqb k q)
 
 -- the map's keys are the numbers of the files
 pub Lists-keys : (m : BTreeMap ℕ (FileBytes)) → All (ContainsKey nat_cmp m) (keys m) → ((q : ℕ) → is_some (get nat_cmp m q) ≡ is_member (eq_by_cmp nat_cmp) (keys m) q)
-    → Lists (keys m) (stored_in (files_of m.entries))
+    → ListsNumbers (keys m) (stored_in (files_of m.entries))
 Lists-keys m found has = record {
   there = λ i d within. rw (stored_in-files_of m.entries) (IsSome-option_map _ _ (found i d within));
   all = λ k stored. (is_member-Decides Decides-eq_by_cmp (keys m) k).0 (sym (has k) ∙ option_map-IsSome _ _ (rw (stored_in-files_of m.entries k) at stored));

@@ -11,7 +11,7 @@ use Rattle.eden_overlay_format.specs.Values.{content_in}
 use Rattle.eden_overlay.specs.declared.recent.Kept.{Kept}
 use Rattle.std.specs.declared.alloc.AllocError.{AllocError}
 use Rattle.eden_overlay.specs.declared.files.FilesFault.{FilesFault}
-use Rattle.eden_overlay.specs.Files.{Stored, put}
+use Rattle.eden_overlay.specs.Files.{Stored, with_file}
 use Rattle.eden_overlay.proofs.Puts.{put_apart}
 use Rattle.eden_overlay.specs.Held.{HoldsContent}
 use Rattle.eden_overlay.specs.Keeping.{AreKeptOf, Fits, HasRoom, IsEndOf, IsLast, IsLeft, kept_bytes, kept_content, kept_of, of_others}
@@ -120,7 +120,7 @@ no_bytes = refl
 
 -- a store of that file, or one that failed
 pub kept_beside : (F G : Stored) (k : ℕ) (w : Option (List ℕ)) (kept rest : List Kept) → AreKeptOf F kept → rest ≡ of_others k kept → (result : Result (Unit {0}) FilesFault)
-    → OnOk result (G ≡ put F k w) → OnErr result (G ≡ F) → AreKeptOf G rest
+    → OnOk result (G ≡ with_file F k w) → OnErr result (G ≡ F) → AreKeptOf G rest
 kept_beside F G k w kept rest held is (Ok u) ok err =
     subst (AreKeptOf G) (sym is) (others_kept F G k (λ q ne. ap (λ f. f q) ok ∙ put_apart F k q w ne) kept held)
 kept_beside F G k w kept rest held is (Err e) ok err =

@@ -6,7 +6,7 @@ use Rattle.eden_model.specs.declared.id.Id.{Id}
 use Rattle.eden_model.specs.Limits.{number_least, number_end}
 use Rattle.eden_overlay_format.specs.declared.refusal.Refusal.TheVariants.{BadBody}
 use Rattle.eden_overlay.specs.Counting.{Counted}
-use Rattle.eden_overlay.specs.Files.{Stored, Lists}
+use Rattle.eden_overlay.specs.Files.{Stored, ListsNumbers}
 use Rattle.eden_overlay.specs.Rescanning.{IsNextOf, IsDamaged}
 use Rattle.eden_overlay.specs.Walking.{AreNamed}
 
@@ -19,7 +19,7 @@ pub record IsFound (was_met : ℕ → Bool) (numbers : List ℕ) (after next : �
   pub files : All (λ k. k < next) numbers
   pub last : (next ≡ after) ⊎ ((k : ℕ) × (Contains numbers k × (next ≡ k + 1)))
 
-module _ (F : Stored) (root : Id) (was_met : ℕ → Bool) (are : AreNamed F root was_met) (files : List ℕ) (lists : Lists files F) (after next : ℕ)
+module _ (F : Stored) (root : Id) (was_met : ℕ → Bool) (are : AreNamed F root was_met) (files : List ℕ) (lists : ListsNumbers files F) (after next : ℕ)
     (found : IsFound was_met files after next) where
   first_of : (next ≡ after) → (after ≡ number_least) ⊎ ((k : ℕ) × ((was_met k ≡ true) × (after ≡ k + 1)))
       → (next ≡ number_least) ⊎ ((e : Counted F root) × (next ≡ e.entry.number + 1)) ⊎ ((k : ℕ) × (IsSome (F k) × (next ≡ k + 1)))
@@ -40,6 +40,6 @@ module _ (F : Stored) (root : Id) (was_met : ℕ → Bool) (are : AreNamed F roo
   }
 
 -- where a file's number is the last or later, none is left
-pub none_next : (F : Stored) (root : Id) (files : List ℕ) → Lists files F → (k : ℕ) × (Contains files k × (number_end ≤ k)) → IsDamaged F root 1 BadBody
+pub none_next : (F : Stored) (root : Id) (files : List ℕ) → ListsNumbers files F → (k : ℕ) × (Contains files k × (number_end ≤ k)) → IsDamaged F root 1 BadBody
 none_next F root files lists late =
     inr (inr (inr (refl, refl, (late.0, (All-contains (λ j. IsSome (F j)) files late.0 lists.there late.1.0, late.1.1)))))

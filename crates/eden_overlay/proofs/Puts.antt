@@ -8,20 +8,20 @@ use Rattle.eden_model.specs.declared.kind.Kind.{Kind}
 use Rattle.eden_model.specs.declared.kind.Kind.TheVariants as kind
 use Rattle.eden_overlay_format.specs.declared.header.Identifier.TheVariants as identifier
 use Rattle.eden_overlay_format.specs.declared.stored_entry.StoredEntry.{StoredEntry}
-use Rattle.eden_overlay_format.specs.Stored.{written}
+use Rattle.eden_overlay_format.specs.Stored.{stored_as}
 use Rattle.eden_overlay_format.specs.Numbers.{has_numbers}
 use Rattle.eden_overlay_format.specs.Directory.{AreStorable, directory_body}
 use Rattle.eden_overlay_format.specs.Values.{content_in, entries_in}
 use Rattle.eden_overlay_format.proofs.CallerLemmas.{content_written, entries_written, entries_storable, content_or_entries, content_is_plain, entries_are_plain}
-use Rattle.eden_overlay.specs.Files.{Stored, put}
+use Rattle.eden_overlay.specs.Files.{Stored, with_file}
 use Rattle.eden_overlay.specs.Held.{HoldsContent, HoldsEntries, unless_numbers, root_file}
 use Rattle.eden_overlay.specs.Soundness.{Names, HoldsKind}
 use Rattle.eden_overlay.specs.Laws.{ContentsHeld, EntriesHeld}
 
-pub put_here : (F : Stored) (k q : ℕ) (w : Option (List ℕ)) → k ≡ q → put F k w q ≡ w
+pub put_here : (F : Stored) (k q : ℕ) (w : Option (List ℕ)) → k ≡ q → with_file F k w q ≡ w
 put_here F k q w e = ap (λ b. cond b w (F q)) (eq-eqb k q e)
 
-pub put_apart : (F : Stored) (k q : ℕ) (w : Option (List ℕ)) → k ≢ q → put F k w q ≡ F q
+pub put_apart : (F : Stored) (k q : ℕ) (w : Option (List ℕ)) → k ≢ q → with_file F k w q ≡ F q
 put_apart F k q w ne = ap (λ b. cond b w (F q)) (ne_eqb k q ne)
 
 pub same_or_apart : (k q : ℕ) → (k ≡ q) ⊎ (k ≢ q)
@@ -45,13 +45,13 @@ kind_moved F G k kind.Link same h = (h.0, moved content_in (F k) (G k) h.0 same 
 
 pub contents_held : ContentsHeld
 contents_held F k content short =
-    let bytes = written identifier.File content in
-    moved content_in (Some bytes) (put F k (Some bytes) k) content (sym (put_here F k k (Some bytes) refl)) (content_written content short)
+    let bytes = stored_as identifier.File content in
+    moved content_in (Some bytes) (with_file F k (Some bytes) k) content (sym (put_here F k k (Some bytes) refl)) (content_written content short)
 
 pub entries_held : EntriesHeld
 entries_held F k entries are =
-    let bytes = written identifier.Directory (directory_body entries) in
-    moved entries_in (Some bytes) (put F k (Some bytes) k) entries (sym (put_here F k k (Some bytes) refl)) (entries_written entries are)
+    let bytes = stored_as identifier.Directory (directory_body entries) in
+    moved entries_in (Some bytes) (with_file F k (Some bytes) k) entries (sym (put_here F k k (Some bytes) refl)) (entries_written entries are)
 
 -- ---- one value
 

@@ -11,7 +11,7 @@ use Rattle.eden_overlay.specs.declared.files.FilesFault.{FilesFault}
 use Rattle.eden_overlay.specs.declared.recent_bodies.KeptBody.{KeptBody}
 use Rattle.eden_overlay.specs.declared.recent_bodies.TwoBodies.{TwoBodies}
 use Rattle.eden_overlay.specs.Changing.{HasEntries, IsChanged, MayChange}
-use Rattle.eden_overlay.specs.Files.{Stored, put}
+use Rattle.eden_overlay.specs.Files.{Stored, with_file}
 use Rattle.eden_overlay.specs.Held.{HoldsEntries, with_entries}
 use Rattle.eden_overlay.specs.Keeping.{AreBodiesKept, IsBodyKept, IsKeptLong, body_but, body_entries, kept_but, kept_entries, kept_with}
 use Rattle.eden_overlay.specs.Soundness.{AreSound}
@@ -41,7 +41,7 @@ others_body F G n apart o held = (other_body F G n apart o.latest held.0, other_
 
 -- a store of that file, or one that failed
 pub body_beside : (F G : Stored) (n : ℕ) (w : Option (List ℕ)) (o left : TwoBodies) → AreBodiesKept F o → left ≡ kept_but n o
-    → (result : Result (Unit {0}) FilesFault) → OnOk result (G ≡ put F n w) → OnErr result (G ≡ F) → AreBodiesKept G left
+    → (result : Result (Unit {0}) FilesFault) → OnOk result (G ≡ with_file F n w) → OnErr result (G ≡ F) → AreBodiesKept G left
 body_beside F G n w o left held is (Ok u) ok err =
     subst (AreBodiesKept G) (sym is) (others_body F G n (λ q ne. ap (λ f. f q) ok ∙ put_apart F n q w ne) o held)
 body_beside F G n w o left held is (Err e) ok err = subst (AreBodiesKept G) (sym is) (others_body F G n (λ q ne. ap (λ f. f q) err) o held)
@@ -92,7 +92,7 @@ unfolding IsBodyKept
 own_body F n es there = there
 
 -- with the body that was stored, if it is kept
-pub body_with : (F G : Stored) (n long : ℕ) (w : Option (List ℕ)) (es : List StoredEntry) (o left : TwoBodies) → AreBodiesKept F o → HoldsEntries G n es → G ≡ put F n w
+pub body_with : (F G : Stored) (n long : ℕ) (w : Option (List ℕ)) (es : List StoredEntry) (o left : TwoBodies) → AreBodiesKept F o → HoldsEntries G n es → G ≡ with_file F n w
     → (IsKeptLong long → left ≡ kept_with (record { number = n; body = es }) (kept_but n o)) → (¬ IsKeptLong long → left ≡ kept_but n o) → AreBodiesKept G left
 body_with F G n long w es o left held there ok kept other =
     let others = others_body F G n (λ q ne. ap (λ f. f q) ok ∙ put_apart F n q w ne) o held in

@@ -8,7 +8,7 @@ use Rattle.eden_model.specs.Keys.{same_id}
 use Rattle.eden_model.proofs.CallerLemmas.{same_id-Decides}
 use Rattle.eden_overlay_format.specs.declared.header.Identifier.TheVariants as identifier
 use Rattle.eden_overlay_format.specs.declared.stored_entry.StoredEntry.{StoredEntry}
-use Rattle.eden_overlay_format.specs.Stored.{identifier_bytes, written}
+use Rattle.eden_overlay_format.specs.Stored.{identifier_bytes, stored_as}
 use Rattle.eden_overlay_format.specs.Directory.{directory_body}
 use Rattle.eden_overlay_format.specs.Numbers.{numbers_body, has_numbers}
 use Rattle.eden_overlay_format.proofs.CallerLemmas.{written_starts, written_long, numbers_written, directory_has_none}
@@ -21,7 +21,7 @@ its_own tree entries = ap (λ (b : Bool). cond b (Some entries) None) ((same_id-
 
 pub numbers_held : NumbersHeld
 numbers_held F k tree entries id are others =
-    ap (option_and_then (numbers_of tree)) (put_here F k k (Some (written identifier.Numbers (numbers_body tree entries))) refl)
+    ap (option_and_then (numbers_of tree)) (put_here F k k (Some (stored_as identifier.Numbers (numbers_body tree entries))) refl)
     ∙ ap (option_and_then (of_tree tree)) (numbers_written tree entries id are others) ∙ its_own tree entries
 
 not_its_own : (tree other : Id) (entries : List StoredEntry) (b : Bool) → same_id tree other ≡ b → other ≢ tree → cond b (Some entries) None ≡ None
@@ -30,22 +30,22 @@ not_its_own tree other entries false e apart = refl
 
 pub other_tree_has_none : OtherTreeHasNone
 other_tree_has_none F k tree other entries id are others apart =
-    ap (option_and_then (numbers_of other)) (put_here F k k (Some (written identifier.Numbers (numbers_body tree entries))) refl)
+    ap (option_and_then (numbers_of other)) (put_here F k k (Some (stored_as identifier.Numbers (numbers_body tree entries))) refl)
     ∙ ap (option_and_then (of_tree other)) (numbers_written tree entries id are others) ∙ not_its_own tree other entries (same_id tree other) refl apart
 
 pub entries_have_none : EntriesHaveNone
 entries_have_none F k tree entries =
-    ap (option_and_then (numbers_of tree)) (put_here F k k (Some (written identifier.Directory (directory_body entries))) refl)
+    ap (option_and_then (numbers_of tree)) (put_here F k k (Some (stored_as identifier.Directory (directory_body entries))) refl)
     ∙ ap (option_and_then (of_tree tree)) (directory_has_none (directory_body entries))
 
 -- what is written as numbers has them
-are_numbers : (body : List ℕ) → has_numbers (written identifier.Numbers body) ≡ true
+are_numbers : (body : List ℕ) → has_numbers (stored_as identifier.Numbers body) ≡ true
 are_numbers body =
-    let file = written identifier.Numbers body in
+    let file = stored_as identifier.Numbers body in
     ap (λ (b : Bool). b && bytes_eq (take 4 file) (identifier_bytes identifier.Numbers)) (le-leb 64 (length file) (written_long identifier.Numbers body))
     ∙ ap (λ (four : List ℕ). bytes_eq four (identifier_bytes identifier.Numbers)) (written_starts identifier.Numbers body)
 
 pub root_has_numbers : RootHasNumbers
 root_has_numbers F tree entries =
-    let file = written identifier.Numbers (numbers_body tree entries) in
+    let file = stored_as identifier.Numbers (numbers_body tree entries) in
     ap (option_and_then unless_numbers) (put_here F 1 1 (Some file) refl) ∙ ap (λ (b : Bool). cond b None (Some file)) (are_numbers (numbers_body tree entries))

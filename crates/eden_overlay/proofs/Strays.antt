@@ -3,7 +3,7 @@ use Rattle.std.proofs.Common.{◌≡◌, ◌≢◌, ◌<◌, ℕ, zero, suc, Lis
 use Rattle.std.specs.List.{AllByRecursion}
 use Rattle.eden_overlay_format.specs.declared.stored_entry.StoredEntry.{StoredEntry}
 use Rattle.eden_overlay_format.specs.Directory.{IsStorable}
-use Rattle.eden_overlay.specs.Files.{Stored, put}
+use Rattle.eden_overlay.specs.Files.{Stored, with_file}
 use Rattle.eden_overlay.specs.Soundness.{Names, here, below, IsLive, AreSound}
 use Rattle.eden_overlay.specs.Laws.{NumbersFromTwo, RootlessSound, IsStray, StraysStay, LiveStay, StateStays}
 use Rattle.eden_overlay.specs.Held.{root_file}
@@ -11,33 +11,33 @@ use Rattle.eden_overlay.proofs.Puts.{put_apart, names_moved, kind_moved, entries
 
 module _ (F : Stored) (k : ℕ) (w : Option (List ℕ)) (stray : IsStray F k) where
   G : Stored
-  G = put F k w
+  G = with_file F k w
 
-  was_live : (d : ℕ) → IsLive (put F k w) d → IsLive F d × (k ≢ d)
+  was_live : (d : ℕ) → IsLive (with_file F k w) d → IsLive F d × (k ≢ d)
   was_live d here = (here, stray.not_root)
   was_live d (below c e r n leads) =
       let was = was_live c r in
-      let named = names_moved (put F k w) F c e (put_apart F k c w was.1) n in
+      let named = names_moved (with_file F k w) F c e (put_apart F k c w was.1) n in
       (below c e was.0 named leads, λ is. stray.not_own c e was.0 named leads.1 (sym is))
 
-  still : (d : ℕ) → IsLive F d → IsLive (put F k w) d × (k ≢ d)
+  still : (d : ℕ) → IsLive F d → IsLive (with_file F k w) d × (k ≢ d)
   still d here = (here, stray.not_root)
   still d (below c e r n leads) =
       let now = still c r in
-      let named = names_moved F (put F k w) c e (sym (put_apart F k c w now.1)) n in
+      let named = names_moved F (with_file F k w) c e (sym (put_apart F k c w now.1)) n in
       (below c e now.0 named leads, λ is. stray.not_own c e r n leads.1 (sym is))
 
-  named_before : (d : ℕ) (e : StoredEntry) → IsLive (put F k w) d → Names (put F k w) d e → Names F d e
-  named_before d e r n = names_moved (put F k w) F d e (put_apart F k d w (was_live d r).1) n
+  named_before : (d : ℕ) (e : StoredEntry) → IsLive (with_file F k w) d → Names (with_file F k w) d e → Names F d e
+  named_before d e r n = names_moved (with_file F k w) F d e (put_apart F k d w (was_live d r).1) n
 
-  stays : AreSound F → AreSound (put F k w)
+  stays : AreSound F → AreSound (with_file F k w)
   stays s =
       record {
-        top = top_same F (put F k w) (sym (put_apart F k 1 w stray.not_root)) s.top;
+        top = top_same F (with_file F k w) (sym (put_apart F k 1 w stray.not_root)) s.top;
         owned = λ d e r n own.
             let before = was_live d r in
             let was = named_before d e r n in
-            kind_moved F (put F k w) e.number e.kind (sym (put_apart F k e.number w (λ is. stray.not_own d e before.0 was own (sym is)))) (s.owned d e before.0 was own);
+            kind_moved F (with_file F k w) e.number e.kind (sym (put_apart F k e.number w (λ is. stray.not_own d e before.0 was own (sym is)))) (s.owned d e before.0 was own);
         once = λ c d e f r t n m same. s.once c d e f (was_live c r).0 (was_live d t).0 (named_before c e r n) (named_before d f t m) same;
       }
 

@@ -5,7 +5,7 @@ use Rattle.std.proofs.lemmas.List.Elements.{All-contains, All-contains_itself, A
 use Rattle.eden_model.specs.declared.id.Id.{Id}
 use Rattle.eden_model.specs.Limits.{number_least}
 use Rattle.eden_overlay_format.specs.declared.stored_entry.StoredEntry.{StoredEntry}
-use Rattle.eden_overlay.specs.Files.{Stored, Lists}
+use Rattle.eden_overlay.specs.Files.{Stored, ListsNumbers}
 use Rattle.eden_overlay.specs.Held.{without}
 use Rattle.eden_overlay.specs.Counting.{Counted}
 use Rattle.eden_overlay.specs.Soundness.{Names, here, below, IsLive, AreSound}
@@ -106,7 +106,7 @@ module _ (F : Stored) (root : Id) (was_met : ℕ → Bool) (are : AreNamed F roo
   abbrev may_go : ℕ → Bool
   may_go k = leb number_least k && not (was_met k)
 
-  pub orphans_listed : (ks : List ℕ) → Lists ks F → ListsOrphans (filter may_go ks) F root
+  pub orphans_listed : (ks : List ℕ) → ListsNumbers ks F → ListsOrphans (filter may_go ks) F root
   orphans_listed ks lists =
       let passes = filter_passes may_go ks in
       let there = All-filter may_go (λ k. IsSome (F k)) ks lists.there in

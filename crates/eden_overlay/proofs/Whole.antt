@@ -8,7 +8,7 @@ use Rattle.std.specs.declared.alloc.AllocError.{AllocError}
 use Rattle.eden_overlay_format.specs.Values.{content_in}
 use Rattle.eden_overlay.specs.declared.recent.Kept.{Kept}
 use Rattle.eden_overlay.specs.declared.files.FilesFault.{FilesFault}
-use Rattle.eden_overlay.specs.Files.{Stored, put}
+use Rattle.eden_overlay.specs.Files.{Stored, with_file}
 use Rattle.eden_overlay.specs.Held.{HoldsContent, content_at}
 use Rattle.eden_overlay.specs.Keeping.{AreKnownOf, AreWhole, AddsOne, IsLast, IsLeft, is_one_of, of_others, other_numbers}
 use Rattle.eden_overlay.proofs.Kept.{kept_beside, kept_still, kept_with, none_kept}
@@ -46,10 +46,10 @@ none_known F = (none_kept F, λ k is. absurd cc)
 
 -- a store of that file, or one that failed
 pub known_beside : (F G : Stored) (n : ℕ) (w : Option (List ℕ)) (kept rest : List Kept) (ks left : List ℕ) → AreKnownOf F kept ks → rest ≡ of_others n kept → left ≡ other_numbers n ks
-    → (result : Result (Unit {0}) FilesFault) → OnOk result (G ≡ put F n w) → OnErr result (G ≡ F) → AreKnownOf G rest left
+    → (result : Result (Unit {0}) FilesFault) → OnOk result (G ≡ with_file F n w) → OnErr result (G ≡ F) → AreKnownOf G rest left
 known_beside F G n w kept rest ks left held is others result ok err =
     (kept_beside F G n w kept rest held.0 is result ok err, subst (AreWhole G) (sym others) (left_whole result ok err)) where
-      left_whole : (result : Result (Unit {0}) FilesFault) → OnOk result (G ≡ put F n w) → OnErr result (G ≡ F) → AreWhole G (other_numbers n ks)
+      left_whole : (result : Result (Unit {0}) FilesFault) → OnOk result (G ≡ with_file F n w) → OnErr result (G ≡ F) → AreWhole G (other_numbers n ks)
       left_whole (Ok u) ok err = others_whole F G n (λ q ne. ap (λ f. f q) ok ∙ put_apart F n q w ne) ks held.1
       left_whole (Err e) ok err = others_whole F G n (λ q ne. ap (λ f. f q) err) ks held.1
 

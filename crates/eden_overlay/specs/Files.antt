@@ -6,16 +6,16 @@ use Rattle.eden_overlay_format.specs.Content.{IsHead}
 abbrev pub Stored : Type 0
 Stored = ℕ → Option (List ℕ)
 
--- f, with w at k
-abbrev pub put : Stored → ℕ → Option (List ℕ) → Stored
-put f k w = λ q. if k == q then w else f q
+-- f, with w as file k
+abbrev pub with_file : Stored → ℕ → Option (List ℕ) → Stored
+with_file f k w = λ q. if k == q then w else f q
 
 -- the bytes from a place on, at most so many
 abbrev pub part : ℕ → ℕ → List ℕ → List ℕ
 part from most bytes = take most (drop from bytes)
 
 -- the numbers of the files, and no others
-pub record Lists (ks : List ℕ) (f : Stored) : Type 0 where
+pub record ListsNumbers (ks : List ℕ) (f : Stored) : Type 0 where
   pub there : All (λ k. IsSome (f k)) ks
   pub all : (k : ℕ) → IsSome (f k) → Contains ks k
 

@@ -11,13 +11,13 @@ use Rattle.eden_overlay_format.specs.declared.header.Head.{Head}
 use Rattle.eden_overlay_format.specs.declared.refusal.Refusal.{Refusal}
 use Rattle.eden_overlay_format.specs.declared.state.State.{State}
 use Rattle.eden_overlay_format.specs.declared.stored_entry.StoredEntry.{StoredEntry}
-use Rattle.eden_overlay_format.specs.Stored.{written}
+use Rattle.eden_overlay_format.specs.Stored.{stored_as}
 use Rattle.eden_overlay_format.specs.Content.{IsHead, content_length, content_most}
 use Rattle.eden_overlay_format.specs.Directory.{directory_body}
 use Rattle.eden_overlay_format.specs.Numbers.{numbers_body, has_numbers}
 use Rattle.eden_overlay_format.specs.State.{state_body}
 use Rattle.eden_overlay_format.specs.Values.{content_in, state_in, entries_in, numbers_in}
-use Rattle.eden_overlay.specs.Files.{Stored, part, put}
+use Rattle.eden_overlay.specs.Files.{Stored, part, with_file}
 
 -- the content of file k, or none where it isn't stored or is no content; likewise the entries; and the state of file 0
 abbrev pub content_at : Stored → ℕ → Option (List ℕ)
@@ -88,20 +88,20 @@ own_files F = record { entries = λ k. option_map items_of (entries_at F k); con
 
 -- with that content as file k
 abbrev pub with_content : Stored → ℕ → List ℕ → Stored
-with_content F k content = put F k (Some (written identifier.File content))
+with_content F k content = with_file F k (Some (stored_as identifier.File content))
 
 -- with the directory of those entries as file k
 abbrev pub with_entries : Stored → ℕ → List StoredEntry → Stored
-with_entries F k entries = put F k (Some (written identifier.Directory (directory_body entries)))
+with_entries F k entries = with_file F k (Some (stored_as identifier.Directory (directory_body entries)))
 
 -- with the numbers of a directory on that tree object as file k
 abbrev pub with_numbers : Stored → ℕ → Id → List StoredEntry → Stored
-with_numbers F k tree entries = put F k (Some (written identifier.Numbers (numbers_body tree entries)))
+with_numbers F k tree entries = with_file F k (Some (stored_as identifier.Numbers (numbers_body tree entries)))
 
 -- with that state as file 0
 abbrev pub with_state : Stored → State → Stored
-with_state F state = put F 0 (Some (written identifier.File (state_body state)))
+with_state F state = with_file F 0 (Some (stored_as identifier.File (state_body state)))
 
 -- without file k
 abbrev pub without : Stored → ℕ → Stored
-without F k = put F k None
+without F k = with_file F k None

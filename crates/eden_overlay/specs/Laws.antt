@@ -7,7 +7,7 @@ use Rattle.eden_overlay_format.specs.declared.stored_entry.StoredEntry.{StoredEn
 use Rattle.eden_overlay_format.specs.Content.{content_most}
 use Rattle.eden_overlay_format.specs.Directory.{AreStorable}
 use Rattle.eden_overlay_format.specs.Numbers.{none_is_own}
-use Rattle.eden_overlay.specs.Files.{Stored, put}
+use Rattle.eden_overlay.specs.Files.{Stored, with_file}
 use Rattle.eden_overlay.specs.Held.{HoldsContent, HoldsEntries, root_file, saved_at, with_content, with_entries, with_numbers}
 use Rattle.eden_overlay.specs.Soundness.{Names, LeadsOn, Reached, IsLive, HasOwn, AreSound}
 
@@ -50,15 +50,15 @@ pub record IsStray (F : Stored) (k : ℕ) : Type 0 where
 
 -- a stray may be stored, changed or taken out
 abbrev pub StraysStay : Type 0
-StraysStay = (F : Stored) (k : ℕ) (w : Option (List ℕ)) → IsStray F k → AreSound F → AreSound (put F k w)
+StraysStay = (F : Stored) (k : ℕ) (w : Option (List ℕ)) → IsStray F k → AreSound F → AreSound (with_file F k w)
 
 -- and the same directories are live then
 abbrev pub LiveStay : Type 0
-LiveStay = (F : Stored) (k : ℕ) (w : Option (List ℕ)) → IsStray F k → (d : ℕ) → IsLive (put F k w) d ↔ IsLive F d
+LiveStay = (F : Stored) (k : ℕ) (w : Option (List ℕ)) → IsStray F k → (d : ℕ) → IsLive (with_file F k w) d ↔ IsLive F d
 
 -- whatever becomes of file 0, the state's
 abbrev pub StateStays : Type 0
-StateStays = (F : Stored) (w : Option (List ℕ)) → AreSound F → AreSound (put F 0 w)
+StateStays = (F : Stored) (w : Option (List ℕ)) → AreSound F → AreSound (with_file F 0 w)
 
 -- a stored content may be replaced by another
 abbrev pub ContentsStay : Type 0

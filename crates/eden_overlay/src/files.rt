@@ -57,8 +57,8 @@ pub trait Files<W: World>: Drop {
     ghost use Rattle.std.specs.Ordering.{nat_cmp};
     ghost use Rattle.std.specs.List.Sorted.{IsStrictlySortedBy};
     ghost use Rattle.eden_model.specs.Failures.{Counted};
-    ghost use Rattle.eden_overlay_format.specs.Stored.{written};
-    ghost use Rattle.eden_overlay.specs.Files.{Stored, put, part, IsHeadOf, Lists};
+    ghost use Rattle.eden_overlay_format.specs.Stored.{stored_as};
+    ghost use Rattle.eden_overlay.specs.Files.{Stored, with_file, part, IsHeadOf, ListsNumbers};
     ghost use Rattle.eden_overlay.specs.declared.files.FilesFault.TheVariants.{Device};
 
     /// The files, by their numbers.
@@ -107,7 +107,7 @@ pub trait Files<W: World>: Drop {
 
     /// Stores the bytes as the whole file of that number, in place of any that was there.
     fn replace(&mut self, alloc: Global, number: u64, bytes: &[u8]) -> Result<(), FilesFault>
-        ensures ok { W.honest → OnOk result (stored self.new ≡ put (stored self.old) number (Some bytes.now)) }
+        ensures ok { W.honest → OnOk result (stored self.new ≡ with_file (stored self.old) number (Some bytes.now)) }
         ensures err { W.honest → OnErr result (stored self.new ≡ stored self.old) }
         ensures counted { Counted (result ≡ Err Device) (failures self.old) (failures self.new) };
 
@@ -121,7 +121,7 @@ pub trait Files<W: World>: Drop {
         behind: &[u8],
     ) -> Result<(), FilesFault>
         ensures ok { W.honest
-            → OnOk result (stored self.new ≡ put (stored self.old) number (Some (front.now ++ behind.now))) }
+            → OnOk result (stored self.new ≡ with_file (stored self.old) number (Some (front.now ++ behind.now))) }
         ensures err { W.honest → OnErr result (stored self.new ≡ stored self.old) }
         ensures counted { Counted (result ≡ Err Device) (failures self.old) (failures self.new) };
 
@@ -134,8 +134,8 @@ pub trait Files<W: World>: Drop {
         identifier: Identifier,
         body: &[u8],
     ) -> Result<(), FilesFault>
-        ensures ok { W.honest
-            → OnOk result (stored self.new ≡ put (stored self.old) number (Some (written identifier body.now))) }
+        ensures ok { W.honest → OnOk result
+            (stored self.new ≡ with_file (stored self.old) number (Some (stored_as identifier body.now))) }
         ensures err { W.honest → OnErr result (stored self.new ≡ stored self.old) }
         ensures counted { Counted (result ≡ Err Device) (failures self.old) (failures self.new) }
     {
@@ -145,7 +145,7 @@ pub trait Files<W: World>: Drop {
 
     /// Removes the file of that number; Ok too where there is none. It takes no memory: its one error is the device's.
     fn remove(&mut self, number: u64) -> Result<(), FilesFault>
-        ensures ok { W.honest → OnOk result (stored self.new ≡ put (stored self.old) number None) }
+        ensures ok { W.honest → OnOk result (stored self.new ≡ with_file (stored self.old) number None) }
         ensures err { W.honest → OnErr result (stored self.new ≡ stored self.old) }
         ensures fault { IfErr result (λ f. f ≡ Device) }
         ensures counted { Counted (result ≡ Err Device) (failures self.old) (failures self.new) };
@@ -159,7 +159,7 @@ pub trait Files<W: World>: Drop {
     /// The numbers of all files, rising.
     fn list(&mut self, alloc: Global) -> Result<Vec<u64>, FilesFault>
         ensures rising { IfOk result (λ v. IsStrictlySortedBy nat_cmp v.items) }
-        ensures all { W.honest → IfOk result (λ v. Lists v.items (stored self.old)) }
+        ensures all { W.honest → IfOk result (λ v. ListsNumbers v.items (stored self.old)) }
         ensures unchanged { W.honest → stored self.new ≡ stored self.old }
         ensures counted { Counted (result ≡ Err Device) (failures self.old) (failures self.new) };
 }

@@ -5,9 +5,9 @@ ghost use Rattle.std.specs.Prelude.{option_map};
 ghost use Rattle.std.specs.Ordering.{nat_cmp};
 ghost use Rattle.std.specs.List.Sorted.{IsStrictlySortedBy};
 ghost use Rattle.eden_model.specs.Failures.{Counted};
-ghost use Rattle.eden_overlay_format.specs.Stored.{written};
+ghost use Rattle.eden_overlay_format.specs.Stored.{stored_as};
 ghost use Rattle.eden_overlay.specs.Gates.{Calls};
-ghost use Rattle.eden_overlay.specs.Files.{IsHeadOf, Lists, part, put};
+ghost use Rattle.eden_overlay.specs.Files.{IsHeadOf, ListsNumbers, part, with_file};
 ghost use Rattle.eden_overlay.specs.declared.files.FilesFault.TheVariants as fault;
 
 use crate::files::{Files, FilesFault, count_failures};
@@ -202,7 +202,7 @@ impl<W: World, F: Files<W>, G: Gate> Files<W> for GatedFiles<F, G> {
 
     fn replace(&mut self, alloc: Global, number: u64, bytes: &[u8]) -> Result<(), FilesFault>
         ensures ok { W.honest
-            → OnOk result (F.stored self.new.files ≡ put (F.stored self.old.files) number (Some bytes.now)) }
+            → OnOk result (F.stored self.new.files ≡ with_file (F.stored self.old.files) number (Some bytes.now)) }
         ensures err { W.honest → OnErr result (F.stored self.new.files ≡ F.stored self.old.files) }
         ensures counted { Counted (result ≡ Err fault.Device) self.old.failures self.new.failures }
         ensures calls { Calls G.passed self.old result self.new }
@@ -224,7 +224,7 @@ impl<W: World, F: Files<W>, G: Gate> Files<W> for GatedFiles<F, G> {
         behind: &[u8],
     ) -> Result<(), FilesFault>
         ensures ok { W.honest → OnOk result
-            (F.stored self.new.files ≡ put (F.stored self.old.files) number (Some (front.now ++ behind.now))) }
+            (F.stored self.new.files ≡ with_file (F.stored self.old.files) number (Some (front.now ++ behind.now))) }
         ensures err { W.honest → OnErr result (F.stored self.new.files ≡ F.stored self.old.files) }
         ensures counted { Counted (result ≡ Err fault.Device) self.old.failures self.new.failures }
         ensures calls { Calls G.passed self.old result self.new }
@@ -246,7 +246,8 @@ impl<W: World, F: Files<W>, G: Gate> Files<W> for GatedFiles<F, G> {
         body: &[u8],
     ) -> Result<(), FilesFault>
         ensures ok { W.honest → OnOk result
-            (F.stored self.new.files ≡ put (F.stored self.old.files) number (Some (written identifier body.now))) }
+            (F.stored self.new.files
+            ≡ with_file (F.stored self.old.files) number (Some (stored_as identifier body.now))) }
         ensures err { W.honest → OnErr result (F.stored self.new.files ≡ F.stored self.old.files) }
         ensures counted { Counted (result ≡ Err fault.Device) self.old.failures self.new.failures }
         ensures calls { Calls G.passed self.old result self.new }
@@ -261,7 +262,8 @@ impl<W: World, F: Files<W>, G: Gate> Files<W> for GatedFiles<F, G> {
     }
 
     fn remove(&mut self, number: u64) -> Result<(), FilesFault>
-        ensures ok { W.honest → OnOk result (F.stored self.new.files ≡ put (F.stored self.old.files) number None) }
+        ensures ok { W.honest → OnOk result
+            (F.stored self.new.files ≡ with_file (F.stored self.old.files) number None) }
         ensures err { W.honest → OnErr result (F.stored self.new.files ≡ F.stored self.old.files) }
         ensures fault { IfErr result (λ f. f ≡ fault.Device) }
         ensures counted { Counted (result ≡ Err fault.Device) self.old.failures self.new.failures }
@@ -292,7 +294,7 @@ impl<W: World, F: Files<W>, G: Gate> Files<W> for GatedFiles<F, G> {
 
     fn list(&mut self, alloc: Global) -> Result<Vec<u64>, FilesFault>
         ensures rising { IfOk result (λ v. IsStrictlySortedBy nat_cmp v.items) }
-        ensures all { W.honest → IfOk result (λ v. Lists v.items (F.stored self.old.files)) }
+        ensures all { W.honest → IfOk result (λ v. ListsNumbers v.items (F.stored self.old.files)) }
         ensures unchanged { W.honest → F.stored self.new.files ≡ F.stored self.old.files }
         ensures counted { Counted (result ≡ Err fault.Device) self.old.failures self.new.failures }
         ensures calls { Calls G.passed self.old result self.new }

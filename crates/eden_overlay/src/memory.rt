@@ -3,8 +3,8 @@ ghost use Rattle.std.specs.Option.{option_copied, option_map};
 ghost use Rattle.std.specs.Ordering.{nat_cmp};
 ghost use Rattle.std.specs.List.Sorted.{IsStrictlySortedBy};
 ghost use Rattle.eden_overlay_format.specs.Content.{IsHead};
-ghost use Rattle.eden_overlay.specs.Files.{IsHeadOf, Lists, part};
-ghost use Rattle.eden_overlay_format.specs.Stored.{written};
+ghost use Rattle.eden_overlay.specs.Files.{IsHeadOf, ListsNumbers, part};
+ghost use Rattle.eden_overlay_format.specs.Stored.{stored_as};
 ghost use Rattle.eden_overlay_format.specs.declared.header.Identifier.TheVariants as identifier;
 ghost use Rattle.eden_overlay.specs.InMemory.{bytes_in_memory, files_of, stored_in};
 
@@ -145,7 +145,7 @@ fn joined(alloc: Global, front: &[u8], behind: &[u8]) -> Result<Vec<u8>, AllocEr
 
 // The file with that body, as it is kept.
 fn kept(alloc: Global, identifier: Identifier, body: &[u8]) -> Result<FileBytes, AllocError>
-    ensures { IfOk result (λ file. bytes_in_memory file ≡ written identifier body.now) }
+    ensures { IfOk result (λ file. bytes_in_memory file ≡ stored_as identifier body.now) }
 {
     match identifier {
         Identifier::Directory => Ok(FileBytes::Directory(Vec::from_slice(alloc, body)?)),
@@ -209,7 +209,7 @@ fn head_in(kept: Option<&FileBytes>) -> Option<Head>
 
 // The head of the directory's file that has that body.
 fn head_of_directory(body: &[u8]) -> Head
-    ensures { IsHead result (written identifier.Directory body.now) }
+    ensures { IsHead result (stored_as identifier.Directory body.now) }
 {
     Head {
         first: header_of(Identifier::Directory, body),
@@ -234,7 +234,7 @@ fn head_of(bytes: &[u8]) -> Head
 // The numbers of the files.
 fn numbers(alloc: Global, files: &BTreeMap<u64, FileBytes>) -> Result<Vec<u64>, AllocError>
     ensures rising { IfOk result (λ v. IsStrictlySortedBy nat_cmp v.items) }
-    ensures all { IfOk result (λ v. Lists v.items (stored_in (files_of files.now.entries))) }
+    ensures all { IfOk result (λ v. ListsNumbers v.items (stored_in (files_of files.now.entries))) }
 {
     files.keys().copied().collect(alloc)
 }

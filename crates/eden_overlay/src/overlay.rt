@@ -12,7 +12,7 @@ ghost use Rattle.eden_overlay_format.specs.Changing.{entries_with, entry_as};
 ghost use Rattle.eden_overlay_format.specs.Directory.{AreStorable, IsStorable};
 ghost use Rattle.eden_overlay_format.specs.State.{IsGoodState};
 ghost use Rattle.eden_overlay_format.specs.Values.{content_in, state_in, entries_in};
-ghost use Rattle.eden_overlay.specs.Files.{Lists};
+ghost use Rattle.eden_overlay.specs.Files.{ListsNumbers};
 ghost use Rattle.eden_overlay.specs.Held.{HoldsContent, HoldsEntries, HoldsPart, HoldsState, TellsLength};
 ghost use Rattle.eden_overlay.specs.Held.{content_at, root_file, saved_at};
 ghost use Rattle.eden_overlay.specs.Held.{with_content, with_entries, with_numbers, with_state, without};
@@ -557,7 +557,7 @@ impl<W: World, F: Files<W>> Overlay<W, F> {
     /// The numbers of all files, rising.
     pub fn list(&mut self, alloc: Global) -> Result<Vec<u64>, FilesFault>
         ensures rising { IfOk result (λ v. IsStrictlySortedBy nat_cmp v.items) }
-        ensures all { W.honest → IfOk result (λ v. Lists v.items (F.stored self.old)) }
+        ensures all { W.honest → IfOk result (λ v. ListsNumbers v.items (F.stored self.old)) }
         ensures unchanged { W.honest → F.stored self.new ≡ F.stored self.old }
         ensures counted { Counted (result ≡ Err files.Device) (F.failures self.old) (F.failures self.new) }
     {

@@ -8,7 +8,7 @@ use Rattle.eden_overlay_format.specs.declared.header.Identifier.{Identifier}
 use Rattle.eden_overlay_format.specs.declared.header.Identifier.TheVariants as identifier
 use Rattle.eden_overlay_format.specs.declared.state.State.{State}
 use Rattle.eden_overlay_format.specs.declared.stored_entry.StoredEntry.{StoredEntry}
-use Rattle.eden_overlay_format.specs.Stored.{identifier_bytes, body_in, written}
+use Rattle.eden_overlay_format.specs.Stored.{identifier_bytes, body_in, stored_as}
 use Rattle.eden_overlay_format.specs.Content.{content_most}
 use Rattle.eden_overlay_format.specs.Directory.{AreStorable, directory_body}
 use Rattle.eden_overlay_format.specs.Numbers.{none_is_own, numbers_body, has_numbers, IsNumbers}
@@ -27,30 +27,30 @@ pub use Rattle.eden_overlay_format.proofs.Numbered.{first_tells}
 
 -- what is written is found
 
-pub content_written : (content : List ℕ) → length content ≤ content_most → content_in (written identifier.File content) ≡ Some content
-content_written content short = (contents_found (written identifier.File content) content).1 (record { stored = written_found identifier.File content; most = short })
+pub content_written : (content : List ℕ) → length content ≤ content_most → content_in (stored_as identifier.File content) ≡ Some content
+content_written content short = (contents_found (stored_as identifier.File content) content).1 (record { stored = written_found identifier.File content; most = short })
 
-pub state_written : (s : State) → IsGoodState s → state_in (written identifier.File (state_body s)) ≡ Some s
-state_written s good = (states_found (written identifier.File (state_body s)) s).1 (record { stored = written_found identifier.File (state_body s); good = good })
+pub state_written : (s : State) → IsGoodState s → state_in (stored_as identifier.File (state_body s)) ≡ Some s
+state_written s good = (states_found (stored_as identifier.File (state_body s)) s).1 (record { stored = written_found identifier.File (state_body s); good = good })
 
-pub entries_written : (es : List StoredEntry) → AreStorable es → entries_in (written identifier.Directory (directory_body es)) ≡ Some es
-entries_written es are = (entries_found (written identifier.Directory (directory_body es)) es).1 (record { stored = written_found identifier.Directory (directory_body es); entries = are })
+pub entries_written : (es : List StoredEntry) → AreStorable es → entries_in (stored_as identifier.Directory (directory_body es)) ≡ Some es
+entries_written es are = (entries_found (stored_as identifier.Directory (directory_body es)) es).1 (record { stored = written_found identifier.Directory (directory_body es); entries = are })
 
 pub numbers_written : (tree : Id) (es : List StoredEntry) → length tree.bytes ≡ 20 → AreStorable es → none_is_own es ≡ true
-    → numbers_in (written identifier.Numbers (numbers_body tree es)) ≡ Some (tree, es)
-numbers_written tree es id are others = (numbers_found (written identifier.Numbers (numbers_body tree es)) tree es).1
+    → numbers_in (stored_as identifier.Numbers (numbers_body tree es)) ≡ Some (tree, es)
+numbers_written tree es id are others = (numbers_found (stored_as identifier.Numbers (numbers_body tree es)) tree es).1
     (record { stored = written_found identifier.Numbers (numbers_body tree es); id = id; entries = are; others = others })
 
 -- .. and begins with its identifier
-pub written_starts : (i : Identifier) (body : List ℕ) → take 4 (written i body) ≡ identifier_bytes i
-written_starts i body = identified i (written i body) body (written_found i body)
+pub written_starts : (i : Identifier) (body : List ℕ) → take 4 (stored_as i body) ≡ identifier_bytes i
+written_starts i body = identified i (stored_as i body) body (written_found i body)
 
-pub written_long : (i : Identifier) (body : List ℕ) → 64 ≤ length (written i body)
-written_long i body = (behind i (written i body) body (written_found i body)).0
+pub written_long : (i : Identifier) (body : List ℕ) → 64 ≤ length (stored_as i body)
+written_long i body = (behind i (stored_as i body) body (written_found i body)).0
 
 -- a directory's file holds no numbers
-pub directory_has_none : (body : List ℕ) → numbers_in (written identifier.Directory body) ≡ None
-directory_has_none body = other_has_none identifier.Directory (written identifier.Directory body) body (written_found identifier.Directory body) (λ is. absurd (cc))
+pub directory_has_none : (body : List ℕ) → numbers_in (stored_as identifier.Directory body) ≡ None
+directory_has_none body = other_has_none identifier.Directory (stored_as identifier.Directory body) body (written_found identifier.Directory body) (λ is. absurd (cc))
 
 -- a file of another identifier has no numbers
 otherwise : (i : Identifier) (bytes body : List ℕ) → body_in i bytes ≡ Some body → bytes_eq (identifier_bytes i) (identifier_bytes identifier.Numbers) ≡ false

@@ -11,7 +11,7 @@ use Rattle.eden_overlay_format.specs.declared.header.Identifier.{Identifier}
 use Rattle.eden_overlay_format.specs.declared.header.Identifier.TheVariants as identifier
 use Rattle.eden_overlay_format.specs.declared.refusal.Refusal.{Refusal}
 use Rattle.eden_overlay_format.specs.declared.refusal.Refusal.TheVariants.{Short, BadIdentifier}
-use Rattle.eden_overlay_format.specs.Stored.{identifier_bytes, version_bytes, length_bytes, version_refusal, head_refusal, digest_refusal, header, header_refusal, body_in, written}
+use Rattle.eden_overlay_format.specs.Stored.{identifier_bytes, version_bytes, length_bytes, version_refusal, head_refusal, digest_refusal, header, header_refusal, body_in, stored_as}
 use Rattle.eden_overlay_format.specs.Laws.{WrittenFound, OneIdentifier}
 
 pub digest_length : (m : List ℕ) → length (sha1 m) ≡ 20
@@ -75,8 +75,8 @@ written_found identifier.Numbers body =
     ∙ ap (λ (b : List ℕ). Some b) behind
 
 -- a file whose header is written behind its body
-pub sealed : (i : Identifier) (items body new : List ℕ) → items ≡ replicate 64 0 ++ body → new ≡ written i (drop 64 items) → new ≡ written i body
-sealed i items body new e h = h ∙ ap (λ (all : List ℕ). written i (drop 64 all)) e ∙ ap (written i) (drop_at (replicate 64 0) body 64 refl)
+pub sealed : (i : Identifier) (items body new : List ℕ) → items ≡ replicate 64 0 ++ body → new ≡ stored_as i (drop 64 items) → new ≡ stored_as i body
+sealed i items body new e h = h ∙ ap (λ (all : List ℕ). stored_as i (drop 64 all)) e ∙ ap (stored_as i) (drop_at (replicate 64 0) body 64 refl)
 
 -- ---- what is found
 

@@ -7,7 +7,7 @@ use Rattle.std.proofs.lemmas.Grind.{flat_map-append}
 use Rattle.eden_model.specs.declared.id.Id.{Id}
 use Rattle.eden_overlay_format.specs.declared.header.Identifier.TheVariants as identifier
 use Rattle.eden_overlay_format.specs.declared.stored_entry.StoredEntry.{StoredEntry}
-use Rattle.eden_overlay_format.specs.Stored.{written}
+use Rattle.eden_overlay_format.specs.Stored.{stored_as}
 use Rattle.eden_overlay_format.specs.Directory.{IsStorable, row, directory_body}
 use Rattle.eden_overlay_format.specs.Numbers.{numbers_body}
 use Rattle.eden_overlay_format.specs.Listing.{rows_read, entries_read, entries_under_way, AreRowsOf, IsUnderWay}
@@ -68,8 +68,8 @@ module _ (count : ℕ) (file filled : List ℕ) (u : IsUnderWay count file) (cou
       ∙ ap (λ (es : List StoredEntry). replicate 64 0 ++ directory_body es) (sym (seen count file u))
 
   -- and then the id before it, and the header
-  pub numbered : (tree : Id) (longer new : List ℕ) → longer ≡ take 64 filled ++ tree.bytes ++ drop 64 filled → new ≡ written identifier.Numbers (drop 64 longer)
-      → new ≡ written identifier.Numbers (numbers_body tree entries)
+  pub numbered : (tree : Id) (longer new : List ℕ) → longer ≡ take 64 filled ++ tree.bytes ++ drop 64 filled → new ≡ stored_as identifier.Numbers (drop 64 longer)
+      → new ≡ stored_as identifier.Numbers (numbers_body tree entries)
   numbered tree longer new inserted header =
       let front : take 64 filled ≡ replicate 64 0 = ap (take 64) body ∙ take_at (replicate 64 0) (directory_body entries) 64 refl in
       let behind : drop 64 filled ≡ directory_body entries = ap (drop 64) body ∙ drop_at (replicate 64 0) (directory_body entries) 64 refl in

@@ -9,7 +9,7 @@ use Rattle.eden_overlay_format.specs.declared.refusal.Refusal.TheVariants.{BadBo
 use Rattle.eden_overlay_format.specs.declared.refusal.DecodeFault.{DecodeFault}
 use Rattle.eden_overlay_format.specs.declared.refusal.DecodeFault.TheVariants as fault
 use Rattle.eden_overlay_format.specs.declared.stored_entry.StoredEntry.{StoredEntry}
-use Rattle.eden_overlay_format.specs.Stored.{written, header_refusal, body_in, Refuses}
+use Rattle.eden_overlay_format.specs.Stored.{stored_as, header_refusal, body_in, Refuses}
 use Rattle.eden_overlay_format.specs.Directory.{AreStorable, directory_body}
 use Rattle.eden_overlay_format.specs.Numbers.{none_is_own, numbers_body, IsNumbers}
 use Rattle.eden_overlay_format.specs.Reading.{Fails, bytes_at}
@@ -51,9 +51,9 @@ numbers_found bytes tree es = (numbers_only bytes tree es, numbers_again bytes t
 module _ (tree : Id) (es : List StoredEntry) (id : length tree.bytes ≡ 20) (are : AreStorable es) (others : none_is_own es ≡ true) where
   -- what is written is of that tree and those entries
   pub read_again : {X E : Type 0} (view : X → List ℕ) (r : Result X E) (listed : List StoredEntry) → listed ≡ es
-      → IfOk r (λ x. view x ≡ written identifier.Numbers (numbers_body tree listed)) → IfOk r (λ x. IsNumbers (view x) tree es)
+      → IfOk r (λ x. view x ≡ stored_as identifier.Numbers (numbers_body tree listed)) → IfOk r (λ x. IsNumbers (view x) tree es)
   read_again view (Ok x) listed same is =
-      let all : view x ≡ written identifier.Numbers (numbers_body tree es) = is ∙ ap (λ (l : List StoredEntry). written identifier.Numbers (numbers_body tree l)) same in
+      let all : view x ≡ stored_as identifier.Numbers (numbers_body tree es) = is ∙ ap (λ (l : List StoredEntry). stored_as identifier.Numbers (numbers_body tree l)) same in
       record { stored = ap (body_in identifier.Numbers) all ∙ written_found identifier.Numbers (numbers_body tree es); id = id; entries = are; others = others }
   read_again view (Err e) listed same is = tt
 

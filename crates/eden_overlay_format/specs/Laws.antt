@@ -8,7 +8,7 @@ use Rattle.eden_overlay_format.specs.declared.refusal.Refusal.{Refusal}
 use Rattle.eden_overlay_format.specs.declared.refusal.Refusal.TheVariants.{BadBody, BadDigest}
 use Rattle.eden_overlay_format.specs.declared.state.State.{State}
 use Rattle.eden_overlay_format.specs.declared.stored_entry.StoredEntry.{StoredEntry}
-use Rattle.eden_overlay_format.specs.Stored.{written, header_refusal, body_in, Refuses}
+use Rattle.eden_overlay_format.specs.Stored.{stored_as, header_refusal, body_in, Refuses}
 use Rattle.eden_overlay_format.specs.Content.{IsFile, IsHead, content_length}
 use Rattle.eden_overlay_format.specs.State.{IsState}
 use Rattle.eden_overlay_format.specs.Directory.{IsDirectory}
@@ -30,7 +30,7 @@ NumbersFound = (bytes : List ℕ) (tree : Id) (es : List StoredEntry) → (numbe
 
 -- what is written is found
 abbrev pub WrittenFound : Type 0
-WrittenFound = (i : Identifier) (body : List ℕ) → body_in i (written i body) ≡ Some body
+WrittenFound = (i : Identifier) (body : List ℕ) → body_in i (stored_as i body) ≡ Some body
 
 -- .. and under that identifier alone
 abbrev pub OneIdentifier : Type 0

@@ -34,8 +34,8 @@ unfoldable pub header : Identifier → List ℕ → List ℕ
 header i body = identifier_bytes i ++ version_bytes 2 ++ length_bytes (length body) ++ sha1 body ++ replicate 28 0
 
 -- the file as it is written
-abbrev pub written : Identifier → List ℕ → List ℕ
-written i body = header i body ++ body
+abbrev pub stored_as : Identifier → List ℕ → List ℕ
+stored_as i body = header i body ++ body
 
 -- the numbers that stand for refusals
 abbrev pub refusal_number : Refusal → ℕ

@@ -2,7 +2,7 @@
 
 ghost use Rattle.std.specs.Prelude.{◌≡◌, ◌≤◌, ◌<◌, ◌+◌, ◌++◌, Some, IfOk, IfErr, OnErr, length, replicate};
 ghost use Rattle.std.specs.Prelude.{vec_capacity};
-ghost use Rattle.eden_overlay_format.specs.Stored.{Refuses, written};
+ghost use Rattle.eden_overlay_format.specs.Stored.{Refuses, stored_as};
 ghost use Rattle.eden_overlay_format.specs.Content.{content_length, content_most, IsFile};
 ghost use Rattle.eden_overlay_format.specs.Values.{content_in};
 ghost use Rattle.eden_overlay_format.specs.declared.header.Identifier.TheVariants as identifier;
@@ -18,7 +18,7 @@ pub const CONTENT_MOST: usize = 1 << 30;
 /// The stored file of a content of at most `CONTENT_MOST` bytes. The only error is want of memory.
 pub fn encode_file(alloc: Global, content: &[u8]) -> Result<Vec<u8>, AllocError>
     requires { length content.now ≤ content_most }
-    ensures bytes { IfOk result (λ v. v.items ≡ written identifier.File content.now) }
+    ensures bytes { IfOk result (λ v. v.items ≡ stored_as identifier.File content.now) }
     ensures read_again { IfOk result (λ v. IsFile v.items content.now) }
 {
     let mut out = encode_unsealed_in(Vec::new(alloc), Spliced::whole(content))?;

@@ -2,7 +2,7 @@
 
 ghost use Rattle.std.specs.Prelude.{◌≡◌, ◌≤◌, ◌*◌, ◌↔◌, Some, length, IfOk, IfErr, IsOk, IsTrue};
 ghost use Rattle.eden_model.specs.Named.{AreRising};
-ghost use Rattle.eden_overlay_format.specs.Stored.{written};
+ghost use Rattle.eden_overlay_format.specs.Stored.{stored_as};
 ghost use Rattle.eden_overlay_format.specs.Directory.{IsDirectory, AreStorable, directory_body};
 ghost use Rattle.eden_overlay_format.specs.Reading.{Gives, rows_at, rows_of};
 ghost use Rattle.eden_overlay_format.specs.Values.{ClaimsRows, FailsWith, entries_in, entries_of};
@@ -30,7 +30,7 @@ pub fn is_rising(entries: &[StoredEntry]) -> bool
 /// (`is_rising`), each number from 2 to 2^63 - 1, and `Empty` with a directory alone. The only error is want of memory.
 pub fn encode_dir(alloc: Global, entries: &[StoredEntry]) -> Result<Vec<u8>, AllocError>
     requires { AreStorable entries.now }
-    ensures bytes { IfOk result (λ v. v.items ≡ written identifier.Directory (directory_body entries.now)) }
+    ensures bytes { IfOk result (λ v. v.items ≡ stored_as identifier.Directory (directory_body entries.now)) }
     ensures read_again { IfOk result (λ v. IsDirectory v.items entries.now) }
 {
     Ok(Listing::of(Vec::new(alloc), entries)?.into_file())

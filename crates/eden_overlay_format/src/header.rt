@@ -3,7 +3,7 @@
 ghost use Rattle.std.specs.Prelude.{◌≡◌, ◌≤◌, ◌<◌, ◌+◌, Some, None, length, drop, replicate, IfOk, OnErr, MatchResult};
 ghost use Rattle.std.specs.Vec.{vec_capacity};
 ghost use Rattle.eden_overlay_format.specs.Stored.{body_in, digest_refusal, head_refusal, header, header_refusal};
-ghost use Rattle.eden_overlay_format.specs.Stored.{identifier_bytes, version_refusal, written};
+ghost use Rattle.eden_overlay_format.specs.Stored.{identifier_bytes, stored_as, version_refusal};
 
 use crate::refusal::Refusal;
 use sha1::Sha1;
@@ -143,7 +143,7 @@ pub fn header_of(identifier: Identifier, body: &[u8]) -> [u8; HEADER_LEN]
 /// Writes the header into its room, once the body stands behind it.
 pub(crate) fn seal(identifier: Identifier, file: &mut Vec<u8>)
     requires { 64 ≤ length file.old.items }
-    ensures { file.new.items ≡ written identifier (drop 64 file.old.items) }
+    ensures { file.new.items ≡ stored_as identifier (drop 64 file.old.items) }
 {
     let (head, body) = file.as_mut_slice().split_at_mut(HEADER_LEN);
     head.copy_from_slice(&header_of(identifier, body));

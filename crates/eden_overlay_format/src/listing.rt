@@ -3,7 +3,7 @@
 ghost use Rattle.std.specs.Prelude.{◌≡◌, ◌≤◌, ◌<◌, ◌++◌, [], ◌∷◌, length, take, drop, replicate, IfOk, OnOk};
 ghost use Rattle.std.specs.Int.{w32, to_be_bytes};
 ghost use Rattle.std.specs.List.{AllByRecursion};
-ghost use Rattle.eden_overlay_format.specs.Stored.{written};
+ghost use Rattle.eden_overlay_format.specs.Stored.{stored_as};
 ghost use Rattle.eden_overlay_format.specs.Directory.{IsStorable, AreStorable, directory_body};
 ghost use Rattle.eden_overlay_format.specs.Numbers.{numbers_body};
 ghost use Rattle.eden_overlay_format.specs.declared.header.Identifier.TheVariants as identifier;
@@ -112,7 +112,7 @@ impl Listing {
 
     /// The stored file of a directory with these entries.
     pub fn into_file(self) -> Vec<u8>
-        ensures { result.items ≡ written identifier.Directory (directory_body self) }
+        ensures { result.items ≡ stored_as identifier.Directory (directory_body self) }
     {
         let mut file = self.into_unsealed();
         seal(Identifier::Directory, &mut file);
@@ -122,7 +122,7 @@ impl Listing {
     /// The stored file of the numbers that these entries have, of a directory that stands on that tree object. The only
     /// error is want of memory.
     pub fn into_numbers(self, tree: Id) -> Result<Vec<u8>, AllocError>
-        ensures { IfOk result (λ v. v.items ≡ written identifier.Numbers (numbers_body tree self)) }
+        ensures { IfOk result (λ v. v.items ≡ stored_as identifier.Numbers (numbers_body tree self)) }
     {
         let Listing { mut file, count } = self;
         put_count(&mut file, count);

@@ -1,7 +1,7 @@
 //! The numbers of a directory that stands on a tree object.
 
 ghost use Rattle.std.specs.Prelude.{◌≡◌, true, Some, IfOk, IfErr};
-ghost use Rattle.eden_overlay_format.specs.Stored.{written};
+ghost use Rattle.eden_overlay_format.specs.Stored.{stored_as};
 ghost use Rattle.eden_overlay_format.specs.Directory.{AreStorable};
 ghost use Rattle.eden_overlay_format.specs.Numbers.{IsNumbers, none_is_own, numbers_body, numbers_by};
 ghost use Rattle.eden_overlay_format.specs.Values.{numbers_in, FailsWith};
@@ -41,7 +41,7 @@ pub fn encode_numbers(
 ) -> Result<Vec<u8>, AllocError>
     requires storable { AreStorable entries.now }
     requires others { none_is_own entries.now ≡ true }
-    ensures bytes { IfOk result (λ v. v.items ≡ written identifier.Numbers (numbers_body tree entries.now)) }
+    ensures bytes { IfOk result (λ v. v.items ≡ stored_as identifier.Numbers (numbers_body tree entries.now)) }
     ensures read_again { IfOk result (λ v. IsNumbers v.items tree entries.now) }
 {
     Listing::of(Vec::new(alloc), entries)?.into_numbers(tree)

@@ -2,7 +2,7 @@
 
 ghost use Rattle.std.specs.Prelude.{◌≡◌, ◌≤◌, Some, IfOk, IfErr};
 ghost use Rattle.eden_model.specs.Limits.{number_least, number_end};
-ghost use Rattle.eden_overlay_format.specs.Stored.{Refuses, written};
+ghost use Rattle.eden_overlay_format.specs.Stored.{Refuses, stored_as};
 ghost use Rattle.eden_overlay_format.specs.State.{IsGoodState, IsState, state_body};
 ghost use Rattle.eden_overlay_format.specs.Reading.{Reaches, state_of};
 ghost use Rattle.eden_overlay_format.specs.Values.{state_in};
@@ -35,7 +35,7 @@ const NEXT_MOST: u64 = 1 << 63;
 pub fn encode_state(alloc: Global, state: State) -> Result<Vec<u8>, AllocError>
     requires least { number_least ≤ state.next }
     requires most { state.next ≤ number_end }
-    ensures bytes { IfOk result (λ v. v.items ≡ written identifier.File (state_body state)) }
+    ensures bytes { IfOk result (λ v. v.items ≡ stored_as identifier.File (state_body state)) }
     ensures read_again { IfOk result (λ v. IsState v.items state) }
 {
     let mut out = start(Vec::new(alloc), STATE_LEN)?;

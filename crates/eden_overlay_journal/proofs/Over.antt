@@ -1,7 +1,7 @@
 -- What a journal says of a file, done to it.
 use Rattle.std.proofs.Common.{◌≡◌, ◌∙◌, ℕ, List, Option, Some, None, refl, ap, inl, inr}
 use Rattle.std.proofs.Math.Path.{fun_ext}
-use Rattle.eden_overlay.specs.Files.{Stored, put}
+use Rattle.eden_overlay.specs.Files.{Stored, with_file}
 use Rattle.eden_overlay.proofs.CallerLemmas.{put_here, put_apart, same_or_apart}
 use Rattle.eden_overlay_journal.specs.Changes.{Change, Changes, changed, over}
 
@@ -10,7 +10,7 @@ over_twice None x = refl
 over_twice (Some w) x = refl
 
 -- what the journal says of a file, done to it, changes nothing that is seen
-pub poured_same : (c : Changes) (f : Stored) (k : ℕ) → changed c (put f k (changed c f k)) ≡ changed c f
+pub poured_same : (c : Changes) (f : Stored) (k : ℕ) → changed c (with_file f k (changed c f k)) ≡ changed c f
 poured_same c f k = fun_ext (λ q. elim (same_or_apart k q) [
   | inl e ↦ ap (over (c q)) (put_here f k q (changed c f k) e ∙ ap (changed c f) e) ∙ over_twice (c q) (f q)
   | inr ne ↦ ap (over (c q)) (put_apart f k q (changed c f k) ne)

@@ -3,13 +3,13 @@ use Rattle.std.proofs.Common.{◌≡◌, ◌⊎◌, ◌∙◌, ℕ, List, Option
 use Rattle.std.proofs.Math.Path.{fun_ext}
 use Rattle.std.proofs.lemmas.List.Elements.{All-contains}
 use Rattle.eden_overlay_format.specs.declared.header.Head.{Head}
-use Rattle.eden_overlay.specs.Files.{IsHeadOf, Stored, put}
+use Rattle.eden_overlay.specs.Files.{IsHeadOf, Stored, with_file}
 use Rattle.eden_overlay.proofs.CallerLemmas.{put_here, put_apart, same_or_apart}
 use Rattle.eden_overlay.specs.declared.files.FilesFault.{FilesFault}
 use Rattle.eden_overlay_journal.specs.Changes.{Change, Changes, ListsChanges, at_opening, changed, over, unchanged, unless_stored}
 
 -- what was done to a file stays so while others are done
-pub still_done : (f t : Stored) (k j : ℕ) → f j ≡ t j → put f k (t k) j ≡ t j
+pub still_done : (f t : Stored) (k j : ℕ) → f j ≡ t j → with_file f k (t k) j ≡ t j
 still_done f t k j done = elim (same_or_apart k j) [
   | inl e ↦ put_here f k j (t k) e ∙ ap t e
   | inr ne ↦ put_apart f k j (t k) ne ∙ done

@@ -8,7 +8,7 @@ use std::alloc::Global;
 /// What it says is promised where the World is honest. After an error nothing has changed.
 pub trait Journal<W: World>: Drop {
     ghost use Rattle.std.specs.Prelude.{◌≡◌, ◌≢◌, true, false, None, Some, Ok, IfOk, IfErr, IsSome, OnOk, OnErr};
-    ghost use Rattle.eden_overlay_format.specs.Stored.{written};
+    ghost use Rattle.eden_overlay_format.specs.Stored.{stored_as};
     ghost use Rattle.eden_overlay_format.specs.declared.header.Identifier.TheVariants as identifier;
     ghost use Rattle.eden_overlay.specs.declared.files.FilesFault.TheVariants.{Device};
     ghost use Rattle.eden_overlay_journal.specs.Changes.{Changes, IsHeadIn, ListsChanges, change_of, noted, unchanged};
@@ -48,7 +48,7 @@ pub trait Journal<W: World>: Drop {
     /// Notes that the file of that number is a directory's with that body, behind its header.
     fn store_directory(&mut self, alloc: Global, number: u64, body: &[u8]) -> Result<(), FilesFault>
         ensures ok { W.honest → OnOk result (changes self.new
-            ≡ noted (changes self.old) number (Some (Some (written identifier.Directory body.now)))) }
+            ≡ noted (changes self.old) number (Some (Some (stored_as identifier.Directory body.now)))) }
         ensures err { W.honest → OnErr result (changes self.new ≡ changes self.old) };
 
     /// Notes that there is no file of that number. It answers false where it has no room in memory to say so: then it

@@ -1,6 +1,6 @@
 ghost use Rattle.std.specs.Prelude.{◌≡◌, ◌≢◌, Err, Some, IfOk, OnErr, OnOk};
 ghost use Rattle.eden_model.specs.Failures.{Counted, one_more};
-ghost use Rattle.eden_overlay.specs.Files.{put};
+ghost use Rattle.eden_overlay.specs.Files.{with_file};
 ghost use Rattle.eden_overlay.specs.declared.files.FilesFault.TheVariants as fault;
 ghost use Rattle.eden_overlay_journal.specs.Changes.{at_opening, changed, unchanged};
 ghost use Rattle.eden_overlay_journal.specs.New.{bytes_as};
@@ -85,7 +85,8 @@ impl<F, J> Journaled<F, J> {
         F: Files<W>,
         J: Journal<W>,
         ensures ok { W.honest → OnOk result (changed (J.changes self.new.journal) (F.stored self.new.files)
-            ≡ put (changed (J.changes self.old.journal) (F.stored self.old.files)) number (Some (bytes_as new.entry))) }
+            ≡ with_file (changed (J.changes self.old.journal) (F.stored self.old.files)) number
+            (Some (bytes_as new.entry))) }
         ensures err { W.honest → OnErr result (changed (J.changes self.new.journal) (F.stored self.new.files)
             ≡ changed (J.changes self.old.journal) (F.stored self.old.files)) }
         ensures counted { Counted (result ≡ Err fault.Device) self.old.failures self.new.failures }

@@ -3,7 +3,7 @@ ghost use Rattle.eden_overlay.specs.declared.files.FilesFault.TheVariants as fau
 ghost use Rattle.eden_overlay_journal.specs.Changes.{IsHeadIn, ListsChanges, change_of, changes_in, noted, unchanged};
 ghost use Rattle.std.specs.Option.{option_copied};
 ghost use Rattle.eden_overlay_format.specs.Content.{IsHead};
-ghost use Rattle.eden_overlay_format.specs.Stored.{written};
+ghost use Rattle.eden_overlay_format.specs.Stored.{stored_as};
 ghost use Rattle.eden_overlay_format.specs.declared.header.Identifier.TheVariants as identifier;
 
 use crate::journal::Journal;
@@ -79,7 +79,7 @@ impl<W: World> Journal<W> for MemoryJournal<W> {
 
     fn store_directory(&mut self, alloc: Global, number: u64, body: &[u8]) -> Result<(), FilesFault>
         ensures ok { OnOk result (changes_in self.new.files
-            ≡ noted (changes_in self.old.files) number (Some (Some (written identifier.Directory body.now)))) }
+            ≡ noted (changes_in self.old.files) number (Some (Some (stored_as identifier.Directory body.now)))) }
         ensures err { OnErr result (changes_in self.new.files ≡ changes_in self.old.files) }
         ensures fault { IfErr result (λ f. f ≡ fault.Memory) }
     {

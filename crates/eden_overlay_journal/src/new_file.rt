@@ -1,6 +1,6 @@
 // What a file is to have, and where it is put.
 ghost use Rattle.std.specs.Prelude.{◌≡◌, ◌++◌, Some, IfOk, OnOk, OnErr};
-ghost use Rattle.eden_overlay.specs.Files.{put};
+ghost use Rattle.eden_overlay.specs.Files.{with_file};
 ghost use Rattle.eden_overlay_journal.specs.Changes.{noted};
 ghost use Rattle.eden_overlay_journal.specs.New.{bytes_as};
 
@@ -69,7 +69,7 @@ pub(crate) fn store<W: World, F: Files<W>>(
     new: NewFile<'_>,
 ) -> Result<(), FilesFault>
     ensures ok { W.honest
-        → OnOk result (F.stored files.new ≡ put (F.stored files.old) number (Some (bytes_as new.entry))) }
+        → OnOk result (F.stored files.new ≡ with_file (F.stored files.old) number (Some (bytes_as new.entry))) }
     ensures err { W.honest → OnErr result (F.stored files.new ≡ F.stored files.old) }
 {
     match new {

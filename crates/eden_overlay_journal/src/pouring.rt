@@ -1,6 +1,6 @@
 // What a journal says, done to the files.
 ghost use Rattle.std.specs.Prelude.{◌≡◌, All, OnErr, OnOk, Some};
-ghost use Rattle.eden_overlay.specs.Files.{put};
+ghost use Rattle.eden_overlay.specs.Files.{with_file};
 ghost use Rattle.eden_overlay_journal.specs.Changes.{at_opening, changed, unchanged};
 
 use crate::journal::Journal;
@@ -17,7 +17,7 @@ fn pour_one<W: World, F: Files<W>, J: Journal<W>>(
 ) -> Result<(), FilesFault>
     ensures journal { W.honest → J.changes journal.new ≡ J.changes journal.old }
     ensures ok { W.honest → OnOk result (F.stored files.new
-        ≡ put (F.stored files.old) number (changed (J.changes journal.old) (F.stored files.old) number)) }
+        ≡ with_file (F.stored files.old) number (changed (J.changes journal.old) (F.stored files.old) number)) }
     ensures err { W.honest → OnErr result (F.stored files.new ≡ F.stored files.old) }
 {
     match journal.read(alloc, number)? {
@@ -36,7 +36,7 @@ fn store_one<W: World, F: Files<W>, J: Journal<W>>(
     bytes: &[u8],
 ) -> Result<(), FilesFault>
     ensures journal { W.honest → J.changes journal.new ≡ J.changes journal.old }
-    ensures ok { W.honest → OnOk result (F.stored files.new ≡ put (F.stored files.old) number (Some bytes.now)) }
+    ensures ok { W.honest → OnOk result (F.stored files.new ≡ with_file (F.stored files.old) number (Some bytes.now)) }
     ensures err { W.honest → OnErr result (F.stored files.new ≡ F.stored files.old) }
 {
     files.replace(alloc, number, bytes)?;

@@ -3,7 +3,7 @@ ghost use Rattle.std.specs.Prelude.{◌≡◌, ◌≤◌, None, Some, IfOk, IfEr
 ghost use Rattle.std.specs.Prelude.{length, option_map};
 ghost use Rattle.std.specs.Ordering.{nat_cmp};
 ghost use Rattle.std.specs.List.Sorted.{IsStrictlySortedBy};
-ghost use Rattle.eden_overlay.specs.Files.{IsHeadOf, Lists, part, put};
+ghost use Rattle.eden_overlay.specs.Files.{IsHeadOf, ListsNumbers, part, with_file};
 ghost use Rattle.eden_overlay.specs.declared.files.FilesFault.TheVariants as fault;
 ghost use Rattle.eden_overlay_journal.specs.Changes.{changed};
 ghost use Rattle.eden_overlay_journal.specs.New.{bytes_as};
@@ -142,7 +142,7 @@ pub(crate) fn replace<W: World, F: Files<W>, J: Journal<W>>(
     new: NewFile<'_>,
 ) -> Result<(), FilesFault>
     ensures ok { W.honest → OnOk result (changed (J.changes journal.new) (F.stored files.new)
-        ≡ put (changed (J.changes journal.old) (F.stored files.old)) number (Some (bytes_as new.entry))) }
+        ≡ with_file (changed (J.changes journal.old) (F.stored files.old)) number (Some (bytes_as new.entry))) }
     ensures err { W.honest → OnErr result (changed (J.changes journal.new) (F.stored files.new)
         ≡ changed (J.changes journal.old) (F.stored files.old)) }
 {
@@ -160,7 +160,7 @@ fn put_in<W: World, F: Files<W>, J: Journal<W>>(
     new: NewFile<'_>,
 ) -> Result<(), FilesFault>
     ensures ok { W.honest → OnOk result (changed (J.changes journal.new) (F.stored files.new)
-        ≡ put (changed (J.changes journal.old) (F.stored files.old)) number (Some (bytes_as new.entry))) }
+        ≡ with_file (changed (J.changes journal.old) (F.stored files.old)) number (Some (bytes_as new.entry))) }
     ensures err { W.honest → OnErr result (changed (J.changes journal.new) (F.stored files.new)
         ≡ changed (J.changes journal.old) (F.stored files.old)) }
 {
@@ -188,7 +188,7 @@ fn put_poured<W: World, F: Files<W>, J: Journal<W>>(
     new: NewFile<'_>,
 ) -> Result<(), FilesFault>
     ensures ok { W.honest → OnOk result (changed (J.changes journal.new) (F.stored files.new)
-        ≡ put (changed (J.changes journal.old) (F.stored files.old)) number (Some (bytes_as new.entry))) }
+        ≡ with_file (changed (J.changes journal.old) (F.stored files.old)) number (Some (bytes_as new.entry))) }
     ensures err { W.honest → OnErr result (changed (J.changes journal.new) (F.stored files.new)
         ≡ changed (J.changes journal.old) (F.stored files.old)) }
 {
@@ -206,7 +206,7 @@ fn put_past<W: World, F: Files<W>, J: Journal<W>>(
     new: NewFile<'_>,
 ) -> Result<(), FilesFault>
     ensures ok { W.honest → OnOk result (changed (J.changes journal.new) (F.stored files.new)
-        ≡ put (changed (J.changes journal.old) (F.stored files.old)) number (Some (bytes_as new.entry))) }
+        ≡ with_file (changed (J.changes journal.old) (F.stored files.old)) number (Some (bytes_as new.entry))) }
     ensures err { W.honest → OnErr result (changed (J.changes journal.new) (F.stored files.new)
         ≡ changed (J.changes journal.old) (F.stored files.old)) }
 {
@@ -245,7 +245,7 @@ pub(crate) fn remove<W: World, F: Files<W>, J: Journal<W>>(
     number: u64,
 ) -> Result<(), FilesFault>
     ensures ok { W.honest → OnOk result (changed (J.changes journal.new) (F.stored files.new)
-        ≡ put (changed (J.changes journal.old) (F.stored files.old)) number None) }
+        ≡ with_file (changed (J.changes journal.old) (F.stored files.old)) number None) }
     ensures err { W.honest → OnErr result (changed (J.changes journal.new) (F.stored files.new)
         ≡ changed (J.changes journal.old) (F.stored files.old)) }
     ensures fault { IfErr result (λ f. f ≡ fault.Device) }
@@ -286,7 +286,7 @@ fn remove_unnoted<W: World, F: Files<W>, J: Journal<W>>(
     number: u64,
 ) -> Result<(), FilesFault>
     ensures journal { W.honest → J.changes journal.new ≡ J.changes journal.old }
-    ensures ok { W.honest → OnOk result (F.stored files.new ≡ put (F.stored files.old) number None) }
+    ensures ok { W.honest → OnOk result (F.stored files.new ≡ with_file (F.stored files.old) number None) }
     ensures err { W.honest → OnErr result (F.stored files.new ≡ F.stored files.old) }
     ensures fault { IfErr result (λ f. f ≡ fault.Device) }
 {
@@ -302,7 +302,7 @@ fn remove_past<W: World, F: Files<W>, J: Journal<W>>(
     number: u64,
 ) -> Result<(), FilesFault>
     ensures ok { W.honest → OnOk result (changed (J.changes journal.new) (F.stored files.new)
-        ≡ put (changed (J.changes journal.old) (F.stored files.old)) number None) }
+        ≡ with_file (changed (J.changes journal.old) (F.stored files.old)) number None) }
     ensures err { W.honest → OnErr result (changed (J.changes journal.new) (F.stored files.new)
         ≡ changed (J.changes journal.old) (F.stored files.old)) }
     ensures fault { IfErr result (λ f. f ≡ fault.Device) }
@@ -334,7 +334,7 @@ pub(crate) fn list<W: World, F: Files<W>, J: Journal<W>>(
 ) -> Result<Vec<u64>, FilesFault>
     ensures rising { IfOk result (λ v. IsStrictlySortedBy nat_cmp v.items) }
     ensures all { W.honest → IfOk result (λ v.
-        Lists v.items (changed (J.changes journal.old) (F.stored files.old))) }
+        ListsNumbers v.items (changed (J.changes journal.old) (F.stored files.old))) }
     ensures unchanged { W.honest → changed (J.changes journal.new) (F.stored files.new)
         ≡ changed (J.changes journal.old) (F.stored files.old) }
 {

@@ -3,7 +3,7 @@ use Rattle.std.specs.BTreeSet.{contains}
 use Rattle.std.proofs.lemmas.Iterator.Adapters.{YieldsList-from_vec}
 use Rattle.std.proofs.lemmas.Iterator.Consumers.{YieldsList-turn}
 use Rattle.std.proofs.lemmas.List.Elements.{Contains-push_cases}
-use Rattle.eden_overlay.specs.Files.{Stored, put}
+use Rattle.eden_overlay.specs.Files.{Stored, with_file}
 use Rattle.eden_overlay.proofs.CallerLemmas.{put_apart, put_here, same_or_apart}
 use Rattle.eden_dematerialise.proofs.unread.remove_all.Goals as goal
 
@@ -20,7 +20,7 @@ numbers-preserved-in-Continue-1 g c =
     let goes : contains nat_cmp kept n ≢ true = search rules in
     record {
       others = λ honest k.
-          let is : G ≡ put H n None = c.in_ok-remove.ensures.ok honest in
+          let is : G ≡ with_file H n None = c.in_ok-remove.ensures.ok honest in
           elim (same_or_apart n k) [
             | inl same ↦
                 inr (ap (λ (X : Stored). X k) is ∙ put_here H n k None same, subst (Contains items) same (_, turn.0, sym turn.1), subst (λ j. contains nat_cmp kept j ≢ true) same goes)
@@ -29,7 +29,7 @@ numbers-preserved-in-Continue-1 g c =
                 elim (c.numbers.invariant.others honest k) [ inl was ↦ inl (still ∙ was) | inr gone ↦ inr (still ∙ gone.0, gone.1, gone.2) ])
           ];
       gone = λ honest k there free.
-          let is : G ≡ put H n None = c.in_ok-remove.ensures.ok honest in
+          let is : G ≡ with_file H n None = c.in_ok-remove.ensures.ok honest in
           elim (same_or_apart n k) [
             | inl same ↦ ap (λ (X : Stored). X k) is ∙ put_here H n k None same
             | inr apart ↦ elim (Contains-push_cases c.numbers.yielded n k there) [

@@ -1,7 +1,7 @@
 use Rattle.std.proofs.Common.{◌≡◌, ◌+◌, ◌∙◌, refl, sym, ap, subst, take, get_or, All, List, ℕ}
 use Rattle.std.proofs.lemmas.List.{take_all}
 use Rattle.std.proofs.lemmas.List.Elements.{All-more, All-weaker}
-use Rattle.eden_overlay.specs.Files.{Stored, put}
+use Rattle.eden_overlay.specs.Files.{Stored, with_file}
 use Rattle.eden_overlay.proofs.CallerLemmas.{put_here}
 use Rattle.eden_overlay_journal.specs.Changes.{Changes, changed}
 use Rattle.eden_overlay_journal.proofs.Over.{poured_same}
@@ -26,15 +26,15 @@ loop-number-preserved g c =
     record {
       journal = λ honest. c.in_ok-pour_one.ensures.journal honest ∙ c.loop-number.invariant.journal honest;
       same = λ honest.
-          let poured = c.in_ok-pour_one.ensures.ok honest ∙ ap (λ (x : Changes). put F k (changed x F k)) (c.loop-number.invariant.journal honest) in
+          let poured = c.in_ok-pour_one.ensures.ok honest ∙ ap (λ (x : Changes). with_file F k (changed x F k)) (c.loop-number.invariant.journal honest) in
           ap (changed C) poured ∙ poured_same C F k ∙ c.loop-number.invariant.same honest;
       done = λ honest.
-          let poured = c.in_ok-pour_one.ensures.ok honest ∙ ap (λ (x : Changes). put F k (changed x F k)) (c.loop-number.invariant.journal honest)
-          ∙ ap (λ (x : Stored). put F k (x k)) (c.loop-number.invariant.same honest) in
+          let poured = c.in_ok-pour_one.ensures.ok honest ∙ ap (λ (x : Changes). with_file F k (changed x F k)) (c.loop-number.invariant.journal honest)
+          ∙ ap (λ (x : Stored). with_file F k (x k)) (c.loop-number.invariant.same honest) in
           let P : Stored → Type 0 = λ x. All (λ j. x j ≡ t j) (take (i + 1) ks) in
           subst P (sym poured)
-          (All-more (λ j. put F k (t k) j ≡ t j) ks i 0 c.loop-number-test.true
-          (All-weaker (λ j. F j ≡ t j) (λ j. put F k (t k) j ≡ t j) (λ j done. still_done F t k j done) (take i ks) (c.loop-number.invariant.done honest))
+          (All-more (λ j. with_file F k (t k) j ≡ t j) ks i 0 c.loop-number-test.true
+          (All-weaker (λ j. F j ≡ t j) (λ j. with_file F k (t k) j ≡ t j) (λ j done. still_done F t k j done) (take i ks) (c.loop-number.invariant.done honest))
           (put_here F k k (t k) refl));
     }
 

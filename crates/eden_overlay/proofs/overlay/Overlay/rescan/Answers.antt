@@ -1,6 +1,6 @@
 use Rattle.std.proofs.Common.{ℕ, List, subst, nat_cmp}
 use Rattle.std.specs.BTreeSet.{contains}
-use Rattle.eden_overlay.specs.Files.{Stored, Lists}
+use Rattle.eden_overlay.specs.Files.{Stored, ListsNumbers}
 use Rattle.eden_overlay.proofs.Nexts.{IsFound, next_found}
 use Rattle.eden_overlay.proofs.overlay.Overlay.rescan.Goals as goal
 
@@ -9,7 +9,7 @@ returns-in-Some-clause-next g c = λ honest.
     let F = g.F.Files.stored c.args.self.now in
     let met = contains nat_cmp c.in_ok-met.met in
     let files = c.in_ok-files.files.items in
-    let lists = subst (λ (X : Stored). Lists files X) (c.named.ensures.unchanged honest) (c.in_ok-files.ensures.all honest) in
+    let lists = subst (λ (X : Stored). ListsNumbers files X) (c.named.ensures.unchanged honest) (c.in_ok-files.ensures.all honest) in
     let P : List ℕ → Type 0 = λ l. IsFound met l c.after_met.result c.in-Some.next in
     let found = subst P c.deref.ensures.value (record {
       met = c.after_met.ensures.above;
