@@ -8,7 +8,8 @@ use Rattle.std.specs.Option.{option_or}
 use Rattle.std.specs.Str.{bytes_eq}
 use Rattle.eden_model.specs.declared.errno.Errno.{Errno}
 use Rattle.eden_wire.specs.Names.{is_plain, name_text, component_text, path_text, SpellsName, AreBytes}
-use Rattle.eden_wire.specs.Fields.{Field, sort_of, bit_text, hex_text, after_text, field_text, fields_text, IsAfter, IsField, AreFields, field_refusal, after_refusal, first_refusal}
+use Rattle.eden_wire.specs.Fields.{Field, bit_text, hex_text, after_text, field_text, fields_text, IsAfter, IsField, field_refusal, after_refusal, first_refusal}
+use Rattle.eden_wire.specs.Words.{sort_of, AreFields}
 use Rattle.eden_wire.specs.Fields.Field.{of_path, of_number, of_bit, of_data, of_after}
 use Rattle.eden_wire.specs.Splits.{Lacks, IsCutAt, IsPart, BeginsWith}
 use Rattle.eden_wire.specs.Scans.{ScansName, ScansPath, ScansAfter, SpellsNoName, SpellsNoAfter, SpellsPath, SpellsAfter, SpellsData, SpellsNo, Scans, SpellNoFields, ScansFields, NextIs, Takes}

@@ -2,18 +2,18 @@
 use Rattle.std.proofs.Common.{◌==◌, ◌||◌, ◌≡◌, ◌≢◌, ℕ, List, [], ◌∷◌, ◌++◌, Bool, true, false, Option, Some, None, sym, ap, ◌∙◌, subst, refl, take, drop, take-append-drop, Result, Ok, Err, OnErr}
 use Rattle.std.proofs.Common.{length, arith}
 use Rattle.std.proofs.lemmas.Bool.{false≢true}
-use Rattle.std.specs.List.{find, list_any}
-use Rattle.std.specs.Option.{is_some}
+use Rattle.std.specs.Prelude.{⊤, map}
+use Rattle.std.specs.List.{AllByRecursion, find, list_any}
 use Rattle.std.specs.Str.{bytes_eq}
 use Rattle.eden_model.specs.declared.errno.Errno.{Errno}
 use Rattle.eden_model.specs.declared.request.Request.{Request}
 use Rattle.eden_model.specs.declared.request.Request.TheVariants as request
-use Rattle.eden_wire.specs.Words.{word_text, shape_of}
-use Rattle.eden_wire.specs.Fields.{Field, sort_of, field_text, fields_text, AreFields, first_refusal}
+use Rattle.eden_wire.specs.Words.{word_text, shape_of, sort_of, AreFields}
+use Rattle.eden_wire.specs.Fields.{Field, IsField, field_text, fields_text, first_refusal}
 use Rattle.eden_wire.specs.Fields.Field.{of_path, of_number, of_bit, of_data, of_after}
-use Rattle.eden_wire.specs.Requests.{word_of, fields_of, Spells, request_refusal}
+use Rattle.eden_wire.specs.Requests.{spelling, Spells}
 use Rattle.eden_wire.specs.Splits.{Lacks, IsCutAt, IsFirstPart}
-use Rattle.eden_wire.specs.Scans.{SpellNoFields, ScansFields, SpellsFields, NextIs, LastIs, Takes}
+use Rattle.eden_wire.specs.Scans.{SpellNoFields, ScansFields, SpellsFields, SpellsRequest, NextIs, LastIs, Takes}
 use Rattle.eden_wire.specs.Lines.{Reads, AsksSome, OneItem, NoLinePatches}
 use Rattle.eden_wire.specs.declared.request.Item.TheVariants.{Asks, Refuses, Bad}
 use Rattle.eden_wire.specs.declared.word.Sort.{Sort}
@@ -84,8 +84,10 @@ word_same v w e = let both : Some v ≡ Some w = sym (word_read v) ∙ ap read_w
 -- a request of this word with these fields
 record Made (w : Word) (fields : List Field) : Type 0 where
   value : Request
-  its_word : word_of value ≡ Some w
-  its_fields : fields_of value ≡ fields
+  parts : spelling value ≡ Some (word_text w, fields)
+
+made_as : (w : Word) (fields others : List Field) (q : Request) → spelling q ≡ Some (word_text w, fields) → fields ≡ others → Made w others
+made_as w fields others q parts same = record { value = q; parts = parts ∙ ap (λ l. Some (word_text w, l)) same }
 
 path_of : (f : Field) → sort_of f ≡ sort.Path → (path : List (List ℕ)) × (of_path path ≡ f)
 path_of (of_path path) s = (path, refl)
@@ -126,50 +128,50 @@ three s t (f ∷ g ∷ []) h = absurd h.2.2
 three s t (f ∷ g ∷ k ∷ []) h = let x = path_of f h.0 in (x.0, g, k, h.2.0, h.2.2.0, ap (λ v. v ∷ g ∷ k ∷ []) x.1)
 three s t (f ∷ g ∷ k ∷ l ∷ fields) h = absurd h.2.2.2
 
-by_path : (w : Word) (make : List (List ℕ) → Request) → ((path : List (List ℕ)) → word_of (make path) ≡ Some w) → ((path : List (List ℕ)) → fields_of (make path) ≡ of_path path ∷ [])
-    → (fields : List Field) → AreFields (sort.Path ∷ []) fields → Made w fields
-by_path w make its_word its_fields fields h = let x = one fields h in record { value = make x.0; its_word = its_word x.0; its_fields = its_fields x.0 ∙ x.1 }
+by_path : (w : Word) (make : List (List ℕ) → Request) → ((path : List (List ℕ)) → spelling (make path) ≡ Some (word_text w, of_path path ∷ [])) → (fields : List Field)
+    → AreFields (sort.Path ∷ []) fields → Made w fields
+by_path w make parts fields h = let x = one fields h in made_as w (of_path x.0 ∷ []) fields (make x.0) (parts x.0) x.1
 
 -- each word has a request for fields of its sorts
 made : (w : Word) (fields : List Field) → AreFields (shape_of w) fields → Made w fields
-made word.Kind = by_path word.Kind (λ p. request.Kind p) (λ p. refl) (λ p. refl)
-made word.Stat = by_path word.Stat (λ p. request.Stat p) (λ p. refl) (λ p. refl)
-made word.ReadLink = by_path word.ReadLink (λ p. request.ReadLink p) (λ p. refl) (λ p. refl)
-made word.Create = by_path word.Create (λ p. request.Create p) (λ p. refl) (λ p. refl)
-made word.Mkdir = by_path word.Mkdir (λ p. request.Mkdir p) (λ p. refl) (λ p. refl)
-made word.Unlink = by_path word.Unlink (λ p. request.Unlink p) (λ p. refl) (λ p. refl)
-made word.Rmdir = by_path word.Rmdir (λ p. request.Rmdir p) (λ p. refl) (λ p. refl)
+made word.Kind = by_path word.Kind (λ p. request.Kind p) (λ p. refl)
+made word.Stat = by_path word.Stat (λ p. request.Stat p) (λ p. refl)
+made word.ReadLink = by_path word.ReadLink (λ p. request.ReadLink p) (λ p. refl)
+made word.Create = by_path word.Create (λ p. request.Create p) (λ p. refl)
+made word.Mkdir = by_path word.Mkdir (λ p. request.Mkdir p) (λ p. refl)
+made word.Unlink = by_path word.Unlink (λ p. request.Unlink p) (λ p. refl)
+made word.Rmdir = by_path word.Rmdir (λ p. request.Rmdir p) (λ p. refl)
 made word.Read = λ fields h.
     let x = three sort.Number sort.Number fields h in
     let m = number_of x.1 x.3 in
     let n = number_of x.2 x.4 in
-    record { value = request.Read x.0 m.0 n.0; its_word = refl; its_fields = ap (λ g. of_path x.0 ∷ g ∷ of_number n.0 ∷ []) m.1 ∙ ap (λ k. of_path x.0 ∷ x.1 ∷ k ∷ []) n.1 ∙ x.5 }
+    made_as word.Read _ fields (request.Read x.0 m.0 n.0) refl (ap (λ g. of_path x.0 ∷ g ∷ of_number n.0 ∷ []) m.1 ∙ ap (λ k. of_path x.0 ∷ x.1 ∷ k ∷ []) n.1 ∙ x.5)
 made word.List = λ fields h.
     let x = three sort.After sort.Number fields h in
     let a = after_of x.1 x.3 in
     let n = number_of x.2 x.4 in
-    record { value = request.List x.0 a.0 n.0; its_word = refl; its_fields = ap (λ g. of_path x.0 ∷ g ∷ of_number n.0 ∷ []) a.1 ∙ ap (λ k. of_path x.0 ∷ x.1 ∷ k ∷ []) n.1 ∙ x.5 }
+    made_as word.List _ fields (request.List x.0 a.0 n.0) refl (ap (λ g. of_path x.0 ∷ g ∷ of_number n.0 ∷ []) a.1 ∙ ap (λ k. of_path x.0 ∷ x.1 ∷ k ∷ []) n.1 ∙ x.5)
 made word.Write = λ fields h.
     let x = three sort.Number sort.Data fields h in
     let m = number_of x.1 x.3 in
     let d = data_of x.2 x.4 in
-    record { value = request.Write x.0 m.0 d.0; its_word = refl; its_fields = ap (λ g. of_path x.0 ∷ g ∷ of_data d.0 ∷ []) m.1 ∙ ap (λ k. of_path x.0 ∷ x.1 ∷ k ∷ []) d.1 ∙ x.5 }
+    made_as word.Write _ fields (request.Write x.0 m.0 d.0) refl (ap (λ g. of_path x.0 ∷ g ∷ of_data d.0 ∷ []) m.1 ∙ ap (λ k. of_path x.0 ∷ x.1 ∷ k ∷ []) d.1 ∙ x.5)
 made word.Truncate = λ fields h.
     let x = two sort.Number fields h in
     let n = number_of x.1 x.2 in
-    record { value = request.Truncate x.0 n.0; its_word = refl; its_fields = ap (λ g. of_path x.0 ∷ g ∷ []) n.1 ∙ x.3 }
+    made_as word.Truncate _ fields (request.Truncate x.0 n.0) refl (ap (λ g. of_path x.0 ∷ g ∷ []) n.1 ∙ x.3)
 made word.SetExec = λ fields h.
     let x = two sort.Bit fields h in
     let b = bit_of x.1 x.2 in
-    record { value = request.SetExec x.0 b.0; its_word = refl; its_fields = ap (λ g. of_path x.0 ∷ g ∷ []) b.1 ∙ x.3 }
+    made_as word.SetExec _ fields (request.SetExec x.0 b.0) refl (ap (λ g. of_path x.0 ∷ g ∷ []) b.1 ∙ x.3)
 made word.Symlink = λ fields h.
     let x = two sort.Data fields h in
     let d = data_of x.1 x.2 in
-    record { value = request.Symlink x.0 d.0; its_word = refl; its_fields = ap (λ g. of_path x.0 ∷ g ∷ []) d.1 ∙ x.3 }
+    made_as word.Symlink _ fields (request.Symlink x.0 d.0) refl (ap (λ g. of_path x.0 ∷ g ∷ []) d.1 ∙ x.3)
 made word.Rename = λ fields h.
     let x = two sort.Path fields h in
     let to = path_of x.1 x.2 in
-    record { value = request.Rename x.0 to.0; its_word = refl; its_fields = ap (λ g. of_path x.0 ∷ g ∷ []) to.1 ∙ x.3 }
+    made_as word.Rename _ fields (request.Rename x.0 to.0) refl (ap (λ g. of_path x.0 ∷ g ∷ []) to.1 ∙ x.3)
 
 -- the request of a word and fields
 abbrev request_of : Word → List Field → Option Request
@@ -189,29 +191,50 @@ request_of word.Rmdir (of_path p ∷ []) = Some (request.Rmdir p)
 request_of word.Rename (of_path p ∷ of_path q ∷ []) = Some (request.Rename p q)
 request_of w fields = None
 
-abbrev request_by : Option Word → List Field → Option Request
-request_by None fields = None
-request_by (Some w) fields = request_of w fields
+-- what a request's line begins with is a word, and the fields behind it are of the word's sorts
+record Worded (q : Request) (text : List ℕ) (fields : List Field) : Type 0 where
+  word : Word
+  text_is : text ≡ word_text word
+  sorts : AreFields (shape_of word) fields
+  back : request_of word fields ≡ Some q
 
-its_own : (q : Request) → is_some (word_of q) ≡ true → request_by (word_of q) (fields_of q) ≡ Some q
-its_own (request.Kind p) some = refl
-its_own (request.Stat p) some = refl
-its_own (request.Read p m n) some = refl
-its_own (request.ReadLink p) some = refl
-its_own (request.List p a n) some = refl
-its_own (request.Write p m d) some = refl
-its_own (request.Patch p m d) some = cc
-its_own (request.Truncate p n) some = refl
-its_own (request.Create p) some = refl
-its_own (request.SetExec p b) some = refl
-its_own (request.Mkdir p) some = refl
-its_own (request.Symlink p d) some = refl
-its_own (request.Unlink p) some = refl
-its_own (request.Rmdir p) some = refl
-its_own (request.Rename p q) some = refl
+abbrev IsWorded : Request → Option (List ℕ × List Field) → Type 0
+IsWorded q None = ⊤
+IsWorded q (Some parts) = AllByRecursion IsField parts.1 → Worded q parts.0 parts.1
 
-its_request : (q : Request) (w : Word) → word_of q ≡ Some w → request_of w (fields_of q) ≡ Some q
-its_request q w is = sym (ap (λ o. request_by o (fields_of q)) is) ∙ its_own q (ap is_some is)
+own_sorts : (fields : List Field) → AllByRecursion IsField fields → AreFields (map sort_of fields) fields
+own_sorts [] h = tt
+own_sorts (f ∷ fields) h = (refl, h.0, own_sorts fields h.1)
+
+worded_by : (q : Request) (w : Word) (fields : List Field) → map sort_of fields ≡ shape_of w → request_of w fields ≡ Some q → AllByRecursion IsField fields → Worded q (word_text w) fields
+worded_by q w fields same back h = record { word = w; text_is = refl; sorts = subst (λ l. AreFields l fields) same (own_sorts fields h); back = back }
+
+is_worded : (q : Request) → IsWorded q (spelling q)
+is_worded (request.Kind p) = worded_by (request.Kind p) word.Kind _ refl refl
+is_worded (request.Stat p) = worded_by (request.Stat p) word.Stat _ refl refl
+is_worded (request.Read p m n) = worded_by (request.Read p m n) word.Read _ refl refl
+is_worded (request.ReadLink p) = worded_by (request.ReadLink p) word.ReadLink _ refl refl
+is_worded (request.List p a n) = worded_by (request.List p a n) word.List _ refl refl
+is_worded (request.Write p m d) = worded_by (request.Write p m d) word.Write _ refl refl
+is_worded (request.Patch p m d) = tt
+is_worded (request.Truncate p n) = worded_by (request.Truncate p n) word.Truncate _ refl refl
+is_worded (request.Create p) = worded_by (request.Create p) word.Create _ refl refl
+is_worded (request.SetExec p b) = worded_by (request.SetExec p b) word.SetExec _ refl refl
+is_worded (request.Mkdir p) = worded_by (request.Mkdir p) word.Mkdir _ refl refl
+is_worded (request.Symlink p d) = worded_by (request.Symlink p d) word.Symlink _ refl refl
+is_worded (request.Unlink p) = worded_by (request.Unlink p) word.Unlink _ refl refl
+is_worded (request.Rmdir p) = worded_by (request.Rmdir p) word.Rmdir _ refl refl
+is_worded (request.Rename p q) = worded_by (request.Rename p q) word.Rename _ refl refl
+
+worded : (q : Request) (line : List ℕ) (refusal : Option Errno) (s : Spells q line refusal) → Worded q s.word s.fields
+worded q line refusal s = subst (IsWorded q) s.parts (is_worded q) s.good
+
+-- fields of some sorts are as they may be spelled
+are_good : (sorts : List Sort) (fields : List Field) → AreFields sorts fields → AllByRecursion IsField fields
+are_good [] [] h = tt
+are_good [] (f ∷ fields) h = absurd h
+are_good (s ∷ sorts) [] h = absurd h
+are_good (s ∷ sorts) (f ∷ fields) h = (h.1, are_good sorts fields h.2)
 
 -- ---- a request is read from a text that was looked through
 
@@ -271,6 +294,10 @@ pub three_fields : (f g k : Field) (text a b d : List ℕ) → ScansFields (sort
 three_fields f g k text a b d scan first second third = whole_more f (sort_of g ∷ sort_of k ∷ []) (g ∷ k ∷ []) text a first
     (two_fields g k a b d (first.on (sort_of g ∷ sort_of k ∷ []) scan) second third)
 
+-- a request was built from its word and fields
+pub builds : (word : Word) (text : List ℕ) (q : Request) (fields : List Field) → spelling q ≡ Some (word_text word, fields) → SpellsFields (shape_of word) text fields → SpellsRequest word text q
+builds word text q fields parts spelled = record { fields = fields; parts = parts; spelled = spelled }
+
 -- ---- what a line is
 
 -- a line cut at its first space
@@ -293,70 +320,83 @@ fields_cut (f ∷ fields) = refl
 line_parts : (line first rest : List ℕ) (w : Word) (fields : List Field) → Cut line first rest → line ≡ word_text w ++ fields_text fields → (first ≡ word_text w) × (rest ≡ fields_text fields)
 line_parts line first rest w fields cut e = first_part 32 first (word_text w) rest (fields_text fields) cut.plain (word_lacks w) cut.cut (fields_cut fields) (sym cut.whole ∙ e)
 
+-- the word and the fields of a line that spells a request
+spelled_parts : (line first rest : List ℕ) (q : Request) (refusal : Option Errno) → Cut line first rest → (s : Spells q line refusal) → (let w = (worded q line refusal s).word in
+    (first ≡ word_text w) × (rest ≡ fields_text s.fields))
+spelled_parts line first rest q refusal cut s =
+    let w = worded q line refusal s in
+    line_parts line first rest w.word s.fields cut (s.text ∙ ap (λ l. l ++ fields_text s.fields) w.text_is)
+
 pub no_word : (line first rest : List ℕ) → Cut line first rest → ((w : Word) → first ≢ word_text w) → Reads line Bad
 unfolding Reads
-no_word line first rest cut none q s = none s.first (line_parts line first rest s.first (fields_of q) cut s.text).0
+no_word line first rest cut none q refusal s = none (worded q line refusal s).word (spelled_parts line first rest q refusal cut s).0
 
 pub no_fields : (line first rest : List ℕ) (w : Word) → Cut line first rest → first ≡ word_text w → SpellNoFields (shape_of w) rest → Reads line Bad
 unfolding Reads
-no_fields line first rest w cut is none q s =
-    let parts = line_parts line first rest s.first (fields_of q) cut s.text in
-    let same : s.first ≡ w = word_same s.first w (sym parts.0 ∙ is) in
-    none (fields_of q) (subst (λ v. AreFields (shape_of v) (fields_of q)) same s.fields) parts.1
+no_fields line first rest w cut is none q refusal s =
+    let own = worded q line refusal s in
+    let parts = spelled_parts line first rest q refusal cut s in
+    let same : own.word ≡ w = word_same own.word w (sym parts.0 ∙ is) in
+    none s.fields (subst (λ v. AreFields (shape_of v) s.fields) same own.sorts) parts.1
 
 -- a request of a line's word and fields
-asks : (line first rest : List ℕ) (w : Word) (refusal : Option Errno) (q : Request) → Cut line first rest → first ≡ word_text w → ScansFields (shape_of w) rest refusal → word_of q ≡ Some w
-    → AreFields (shape_of w) (fields_of q) → rest ≡ fields_text (fields_of q) → Spells q line × (request_refusal q ≡ refusal)
-asks line first rest w refusal q cut is scan its good spelled = (
-  record { first = w; begins = its; text = cut.whole ∙ ap (λ l. l ++ rest) is ∙ ap (λ l. word_text w ++ l) spelled; fields = good },
-  ap first_refusal (fields_same (shape_of w) (fields_of q) scan.fields good scan.good (sym spelled ∙ scan.spelled)) ∙ sym scan.refused,
-)
+asks : (line first rest : List ℕ) (w : Word) (refusal : Option Errno) (q : Request) → Cut line first rest → first ≡ word_text w → ScansFields (shape_of w) rest refusal
+    → SpellsRequest w rest q → Spells q line refusal
+asks line first rest w refusal q cut is scan so = record {
+  word = word_text w;
+  fields = so.fields;
+  parts = so.parts;
+  text = cut.whole ∙ ap (λ l. l ++ rest) is ∙ ap (λ l. word_text w ++ l) so.spelled.whole;
+  good = are_good (shape_of w) so.fields so.spelled.good;
+  refused = scan.refused ∙ ap first_refusal (fields_same (shape_of w) scan.fields so.fields scan.good so.spelled.good (sym scan.spelled ∙ so.spelled.whole));
+}
 
 scanned : (line first rest : List ℕ) (w : Word) (refusal : Option Errno) → Cut line first rest → first ≡ word_text w → ScansFields (shape_of w) rest refusal
-    → (q : Request) × Spells q line × (request_refusal q ≡ refusal)
+    → (q : Request) × Spells q line refusal
 scanned line first rest w refusal cut is scan =
     let m = made w scan.fields scan.good in
-    let all = asks line first rest w refusal m.value cut is scan m.its_word (subst (AreFields (shape_of w)) (sym m.its_fields) scan.good) (scan.spelled ∙ ap fields_text (sym m.its_fields)) in
-    (m.value, all.0, all.1)
+    (m.value, asks line first rest w refusal m.value cut is scan (builds w rest m.value scan.fields m.parts record { good = scan.good; whole = scan.spelled }))
 
 pub refused : (line first rest : List ℕ) (w : Word) (e : Errno) → Cut line first rest → first ≡ word_text w → ScansFields (shape_of w) rest (Some e) → Reads line (Refuses e)
 unfolding Reads
 refused line first rest w e cut is scan = scanned line first rest w (Some e) cut is scan
 
-pub asked : (line first rest : List ℕ) (w : Word) (q : Request) → Cut line first rest → first ≡ word_text w → ScansFields (shape_of w) rest None → word_of q ≡ Some w
-    → SpellsFields (shape_of w) rest (fields_of q) → Reads line (Asks q)
+pub asked : (line first rest : List ℕ) (w : Word) (q : Request) → Cut line first rest → first ≡ word_text w → ScansFields (shape_of w) rest None → SpellsRequest w rest q → Reads line (Asks q)
 unfolding Reads
-asked line first rest w q cut is scan same whole = asks line first rest w None q cut is scan same whole.good whole.whole
+asked line first rest w q cut is scan so = asks line first rest w None q cut is scan so
 
 pub asks_some : (line first rest : List ℕ) (w : Word) → Cut line first rest → first ≡ word_text w → ScansFields (shape_of w) rest None → AsksSome line
 unfolding Reads
-asks_some line first rest w cut is scan = let x = scanned line first rest w None cut is scan in (x.0, (x.1, x.2))
+asks_some line first rest w cut is scan = scanned line first rest w None cut is scan
 
 -- ---- a line has one item
 
-request_same : (q r : Request) (line : List ℕ) → Spells q line → Spells r line → q ≡ r
-request_same q r line h k =
-    let parts = first_part 32 (word_text h.first) (word_text k.first) (fields_text (fields_of q)) (fields_text (fields_of r)) (word_lacks h.first) (word_lacks k.first)
-    (fields_cut (fields_of q)) (fields_cut (fields_of r)) (sym h.text ∙ k.text) in
-    let words_same : h.first ≡ k.first = word_same h.first k.first parts.0 in
-    let all : fields_of q ≡ fields_of r = fields_same (shape_of k.first) (fields_of q) (fields_of r) (subst (λ v. AreFields (shape_of v) (fields_of q)) words_same h.fields) k.fields parts.1 in
-    let both : Some q ≡ Some r = sym (its_request q h.first h.begins) ∙ ap (λ v. request_of v (fields_of q)) words_same ∙ ap (request_of k.first) all ∙ its_request r k.first k.begins in
-    cc
+-- a line spells one request, which is refused in one way
+one_spelling : (q r : Request) (line : List ℕ) (x y : Option Errno) → Spells q line x → Spells r line y → (q ≡ r) × (x ≡ y)
+one_spelling q r line x y h k =
+    let v = worded q line x h in
+    let w = worded r line y k in
+    let (begins, ends) = first_part 32 (word_text v.word) (word_text w.word) (fields_text h.fields) (fields_text k.fields) (word_lacks v.word) (word_lacks w.word) (fields_cut h.fields)
+    (fields_cut k.fields) (ap (λ l. l ++ fields_text h.fields) (sym v.text_is) ∙ sym h.text ∙ k.text ∙ ap (λ l. l ++ fields_text k.fields) w.text_is) in
+    let same : v.word ≡ w.word = word_same v.word w.word begins in
+    let all : h.fields ≡ k.fields = fields_same (shape_of w.word) h.fields k.fields (subst (λ u. AreFields (shape_of u) h.fields) same v.sorts) w.sorts ends in
+    let both : Some q ≡ Some r = sym v.back ∙ ap (λ u. request_of u h.fields) same ∙ ap (request_of w.word) all ∙ w.back in
+    (cc, h.refused ∙ ap first_refusal all ∙ sym k.refused)
 
 pub no_line_patches : NoLinePatches
 unfolding Reads
-no_line_patches line path offset bytes h = let none : None ≡ Some h.0.first = h.0.begins in cc
+no_line_patches line path offset bytes h = let some : spelling (request.Patch path offset bytes) ≡ Some (h.word, h.fields) = h.parts in cc
 
 pub one_item : OneItem
 unfolding Reads
-one_item line (Asks q) (Asks r) h k = ap Asks (request_same q r line h.0 k.0)
-one_item line (Asks q) (Refuses e) h k = absurd (let f : None ≡ Some e = sym h.1 ∙ ap request_refusal (request_same q k.0 line h.0 k.1) ∙ k.2 in cc)
-one_item line (Asks q) Bad h k = absurd (k q h.0)
-one_item line (Refuses e) (Asks r) h k = absurd (let f : None ≡ Some e = sym k.1 ∙ ap request_refusal (request_same r h.0 line k.0 h.1) ∙ h.2 in cc)
-one_item line (Refuses e) (Refuses d) h k = let f : Some e ≡ Some d = sym h.2 ∙ ap request_refusal (request_same h.0 k.0 line h.1 k.1) ∙ k.2 in ap Refuses cc
-one_item line (Refuses e) Bad h k = absurd (k h.0 h.1)
-one_item line Bad (Asks r) h k = absurd (h r k.0)
-one_item line Bad (Refuses d) h k = absurd (h k.0 k.1)
+one_item line (Asks q) (Asks r) h k = ap Asks (one_spelling q r line None None h k).0
+one_item line (Asks q) (Refuses e) h k = absurd (let f = (one_spelling q k.0 line None (Some e) h k.1).1 in cc)
+one_item line (Asks q) Bad h k = absurd (k q None h)
+one_item line (Refuses e) (Asks r) h k = absurd (let f = (one_spelling h.0 r line (Some e) None h.1 k).1 in cc)
+one_item line (Refuses e) (Refuses d) h k = let f = (one_spelling h.0 k.0 line (Some e) (Some d) h.1 k.1).1 in ap Refuses cc
+one_item line (Refuses e) Bad h k = absurd (k h.0 (Some e) h.1)
+one_item line Bad (Asks r) h k = absurd (h r None k)
+one_item line Bad (Refuses d) h k = absurd (h k.0 (Some d) k.1)
 one_item line Bad Bad h k = refl
 
 -- what holds at any answer

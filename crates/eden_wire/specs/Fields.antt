@@ -1,6 +1,6 @@
 -- The fields of a line: how they are spelled, and which are refused. Data is in lower-case hexadecimal (RFC 4648,
 -- section 8).
-use Rattle.std.specs.Prelude.{ℕ, ◌^◌, ◌<◌, ◌≡◌, Bool, List, [], ◌∷◌, if◌then◌else◌, Option, Some, None, codes, ⊤}
+use Rattle.std.specs.Prelude.{ℕ, ◌^◌, ◌<◌, Bool, List, [], ◌∷◌, if◌then◌else◌, Option, Some, None, codes, ⊤}
 use Rattle.std.specs.List.{AllByRecursion, flat_map}
 use Rattle.std.specs.Fmt.{decimal}
 use Rattle.std.specs.Option.{option_or}
@@ -9,8 +9,6 @@ use Rattle.eden_model.specs.Names.{name_refusal}
 use Rattle.eden_model.specs.Paths.{path_refusal}
 use Rattle.eden_model.specs.declared.errno.Errno.{Errno}
 use Rattle.eden_wire.specs.Names.{name_text, path_text, IsComponent, AreBytes}
-use Rattle.eden_wire.specs.declared.word.Sort.{Sort}
-use Rattle.eden_wire.specs.declared.word.Sort.TheVariants as sort
 
 pub data Field : Type 0 where
   of_path : List (List ℕ) → Field
@@ -18,13 +16,6 @@ pub data Field : Type 0 where
   of_bit : Bool → Field
   of_data : List ℕ → Field
   of_after : Option (List ℕ) → Field
-
-abbrev pub sort_of : Field → Sort
-sort_of (of_path path) = sort.Path
-sort_of (of_number n) = sort.Number
-sort_of (of_bit bit) = sort.Bit
-sort_of (of_data bytes) = sort.Data
-sort_of (of_after after) = sort.After
 
 abbrev pub bit_text : Bool → List ℕ
 bit_text bit = if bit then codes "1" else codes "0"
@@ -86,10 +77,3 @@ fields_text fields = flat_map (λ f. 32 ∷ field_text f) fields
 abbrev pub first_refusal : List Field → Option Errno
 first_refusal [] = None
 first_refusal (f ∷ fields) = option_or (field_refusal f) (first_refusal fields)
-
--- fields of these sorts, as they may be spelled
-abbrev pub AreFields : List Sort → List Field → Type 0
-AreFields [] [] = ⊤
-AreFields [] (f ∷ fields) = ⊥
-AreFields (s ∷ sorts) [] = ⊥
-AreFields (s ∷ sorts) (f ∷ fields) = (sort_of f ≡ s) × IsField f × AreFields sorts fields

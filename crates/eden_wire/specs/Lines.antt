@@ -2,10 +2,11 @@
 use Rattle.std.specs.Prelude.{ℕ, ◌+◌, take, drop, ◌<◌, ◌≤◌, ◌≡◌, ◌≢◌, List, [], ◌∷◌, ◌++◌, length, Option, Some, None, ◌⊎◌}
 use Rattle.std.specs.List.{AllByRecursion}
 use Rattle.std.specs.Io.KnownBytes.{IsAtEnd}
+use Rattle.eden_model.specs.declared.errno.Errno.{Errno}
 use Rattle.eden_model.specs.declared.request.Request.{Request}
 use Rattle.eden_model.specs.declared.request.Request.TheVariants as request
 use Rattle.eden_model.specs.Trees.{Path}
-use Rattle.eden_wire.specs.Requests.{Spells, request_refusal}
+use Rattle.eden_wire.specs.Requests.{Spells}
 use Rattle.eden_wire.specs.declared.request.Item.{Item}
 use Rattle.eden_wire.specs.declared.request.Item.TheVariants.{Asks, Refuses, Bad}
 
@@ -15,9 +16,9 @@ longest_line = 150000
 
 -- what a line is: a request, a request whose names aren't names, or neither
 unfoldable pub Reads : List ℕ → Item → Type 0
-Reads line (Asks q) = Spells q line × (request_refusal q ≡ None)
-Reads line (Refuses e) = (q : Request) × Spells q line × (request_refusal q ≡ Some e)
-Reads line Bad = (q : Request) → ¬ Spells q line
+Reads line (Asks q) = Spells q line None
+Reads line (Refuses e) = (q : Request) × Spells q line (Some e)
+Reads line Bad = (q : Request) (refusal : Option Errno) → ¬ Spells q line refusal
 
 -- the line is a request
 abbrev pub AsksSome : List ℕ → Type 0

@@ -7,9 +7,13 @@ use Rattle.eden_model.specs.Names.{most_name, name_refusal}
 use Rattle.eden_model.specs.Paths.{most_names, most_path}
 use Rattle.eden_model.specs.declared.errno.Errno.{Errno}
 use Rattle.eden_model.specs.declared.errno.Errno.TheVariants.{EINVAL, ENAMETOOLONG}
+use Rattle.eden_model.specs.declared.request.Request.{Request}
 use Rattle.eden_wire.specs.Names.{name_text, path_text, IsComponent, AreBytes}
-use Rattle.eden_wire.specs.Fields.{Field, sort_of, hex_text, after_text, field_text, fields_text, IsAfter, IsField, AreFields}
+use Rattle.eden_wire.specs.Fields.{Field, hex_text, after_text, field_text, fields_text, IsAfter, IsField}
 use Rattle.eden_wire.specs.Fields.{spelled_refusal, after_refusal, field_refusal, first_refusal}
+use Rattle.eden_wire.specs.Requests.{spelling}
+use Rattle.eden_wire.specs.Words.{word_text, shape_of, sort_of, AreFields}
+use Rattle.eden_wire.specs.declared.word.Word.{Word}
 use Rattle.eden_wire.specs.declared.word.Sort.{Sort}
 
 abbrev pub is_dots : List ℕ → Bool
@@ -95,6 +99,12 @@ pub record ScansFields (sorts : List Sort) (text : List ℕ) (refusal : Option E
 pub record SpellsFields (sorts : List Sort) (text : List ℕ) (fields : List Field) : Type 0 where
   pub good : AreFields sorts fields
   pub whole : text ≡ fields_text fields
+
+-- the request has this word, and the text is that of its fields
+pub record SpellsRequest (word : Word) (text : List ℕ) (q : Request) : Type 0 where
+  pub fields : List Field
+  pub parts : spelling q ≡ Some (word_text word, fields)
+  pub spelled : SpellsFields (shape_of word) text fields
 
 -- a field of this sort comes next, and nothing is refused
 abbrev pub NextIs : Sort → List ℕ → Type 0

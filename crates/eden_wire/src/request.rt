@@ -1,9 +1,8 @@
-ghost use Rattle.std.specs.Prelude.{◌≡◌, IfOk, OnErr, Some, None};
+ghost use Rattle.std.specs.Prelude.{IfOk, OnErr, None};
 ghost use Rattle.eden_wire.specs.Lines.{Reads, AsksSome};
-ghost use Rattle.eden_wire.specs.Requests.{word_of, fields_of};
 ghost use Rattle.eden_wire.specs.Words.{shape_of};
 ghost use Rattle.eden_wire.specs.Fields.Field.{of_path};
-ghost use Rattle.eden_wire.specs.Scans.{ScansFields, SpellsFields, Takes};
+ghost use Rattle.eden_wire.specs.Scans.{ScansFields, SpellsRequest, Takes};
 
 use crate::field::{Fields, scan_fields};
 use crate::split::part_len;
@@ -52,8 +51,7 @@ fn first_path(alloc: Global, word: Word, fields: &mut Fields) -> Result<Path, Al
 // The request of the word and the fields behind it. The only error is want of memory.
 fn build(alloc: Global, word: Word, text: &[u8]) -> Result<Request, AllocError>
     requires { ScansFields (shape_of word) text.now None }
-    ensures word { IfOk result (λ q. word_of q ≡ Some word) }
-    ensures fields { IfOk result (λ q. SpellsFields (shape_of word) text.now (fields_of q)) }
+    ensures { IfOk result (SpellsRequest word text.now) }
 {
     let mut fields = Fields::new(text);
     let path = first_path(alloc, word, &mut fields)?;

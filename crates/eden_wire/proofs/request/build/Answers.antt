@@ -1,5 +1,6 @@
+use Rattle.std.proofs.Common.{refl}
 use Rattle.eden_wire.specs.Fields.Field.{of_path, of_number, of_bit, of_data, of_after}
-use Rattle.eden_wire.proofs.RequestLemmas.{next, one_field, two_fields, three_fields}
+use Rattle.eden_wire.proofs.RequestLemmas.{builds, next, one_field, two_fields, three_fields}
 use Rattle.eden_wire.proofs.request.build.Goals as goal
 use Rattle.eden_wire.proofs.request.build.Goals.{in-Kind, in-Stat, in-Read, in-ReadLink, in-List+in_ok-after-in-List, in-Write+in_ok-data-in-Write, in-Truncate, in-Create, in-SetExec, in-Mkdir}
 use Rattle.eden_wire.proofs.request.build.Goals.{in-Symlink+in_ok-data-in-Symlink, in-Unlink, in-Rmdir, in-Rename+in_ok-path-in-Rename}
@@ -46,31 +47,32 @@ data-requires c =
     let second = c.number-in-Write.ensures in
     second.on _ (first.on _ (rw c.in-Write.is at c.requires))
 
-pub returns-clause-fields : goal.returns-clause-fields
-returns-clause-fields c =
+pub returns : goal.returns
+returns c =
     let path = c.in_ok-path.path in
     let first = rw c.new-fields.ensures at c.in_ok-path.ensures in
     elim c.match-word.branch [
-      | in-Kind w ↦ rw (w.in-Kind.is, w.result-is) (one_field (of_path path) _ _ (rw w.in-Kind.is at c.requires) first)
-      | in-Stat w ↦ rw (w.in-Stat.is, w.result-is) (one_field (of_path path) _ _ (rw w.in-Stat.is at c.requires) first)
+      | in-Kind w ↦ rw (w.in-Kind.is, w.result-is) (builds _ _ _ _ refl (one_field (of_path path) _ _ (rw w.in-Kind.is at c.requires) first))
+      | in-Stat w ↦ rw (w.in-Stat.is, w.result-is) (builds _ _ _ _ refl (one_field (of_path path) _ _ (rw w.in-Stat.is at c.requires) first))
       | in-Read w ↦ rw (w.in-Read.is, w.result-is)
-          (three_fields (of_path path) (of_number w.number.result) (of_number w.number-in-Read.result) _ _ _ _ (rw w.in-Read.is at c.requires) first w.number.ensures w.number-in-Read.ensures)
-      | in-ReadLink w ↦ rw (w.in-ReadLink.is, w.result-is) (one_field (of_path path) _ _ (rw w.in-ReadLink.is at c.requires) first)
+          (builds _ _ _ _ refl (three_fields (of_path path) (of_number w.number.result) (of_number w.number-in-Read.result) _ _ _ _
+          (rw w.in-Read.is at c.requires) first w.number.ensures w.number-in-Read.ensures))
+      | in-ReadLink w ↦ rw (w.in-ReadLink.is, w.result-is) (builds _ _ _ _ refl (one_field (of_path path) _ _ (rw w.in-ReadLink.is at c.requires) first))
       | in-List+in_ok-after-in-List w ↦ rw (w.in-List.is, w.result-is)
-          (three_fields (of_path path) (of_after w.in_ok-after-in-List.field-0) (of_number w.number-in-List.result) _ _ _ _
-          (rw w.in-List.is at c.requires) first w.in_ok-after-in-List.ensures w.number-in-List.ensures)
+          (builds _ _ _ _ refl (three_fields (of_path path) (of_after w.in_ok-after-in-List.field-0) (of_number w.number-in-List.result) _ _ _ _
+          (rw w.in-List.is at c.requires) first w.in_ok-after-in-List.ensures w.number-in-List.ensures))
       | in-Write+in_ok-data-in-Write w ↦ rw (w.in-Write.is, w.result-is)
-          (three_fields (of_path path) (of_number w.number-in-Write.result) (of_data w.in_ok-data-in-Write.field-0) _ _ _ _
-          (rw w.in-Write.is at c.requires) first w.number-in-Write.ensures w.in_ok-data-in-Write.ensures)
+          (builds _ _ _ _ refl (three_fields (of_path path) (of_number w.number-in-Write.result) (of_data w.in_ok-data-in-Write.field-0) _ _ _ _
+          (rw w.in-Write.is at c.requires) first w.number-in-Write.ensures w.in_ok-data-in-Write.ensures))
       | in-Truncate w ↦ rw (w.in-Truncate.is, w.result-is)
-          (two_fields (of_path path) (of_number w.number-in-Truncate.result) _ _ _ (rw w.in-Truncate.is at c.requires) first w.number-in-Truncate.ensures)
-      | in-Create w ↦ rw (w.in-Create.is, w.result-is) (one_field (of_path path) _ _ (rw w.in-Create.is at c.requires) first)
-      | in-SetExec w ↦ rw (w.in-SetExec.is, w.result-is) (two_fields (of_path path) (of_bit w.bit.result) _ _ _ (rw w.in-SetExec.is at c.requires) first w.bit.ensures)
-      | in-Mkdir w ↦ rw (w.in-Mkdir.is, w.result-is) (one_field (of_path path) _ _ (rw w.in-Mkdir.is at c.requires) first)
+          (builds _ _ _ _ refl (two_fields (of_path path) (of_number w.number-in-Truncate.result) _ _ _ (rw w.in-Truncate.is at c.requires) first w.number-in-Truncate.ensures))
+      | in-Create w ↦ rw (w.in-Create.is, w.result-is) (builds _ _ _ _ refl (one_field (of_path path) _ _ (rw w.in-Create.is at c.requires) first))
+      | in-SetExec w ↦ rw (w.in-SetExec.is, w.result-is) (builds _ _ _ _ refl (two_fields (of_path path) (of_bit w.bit.result) _ _ _ (rw w.in-SetExec.is at c.requires) first w.bit.ensures))
+      | in-Mkdir w ↦ rw (w.in-Mkdir.is, w.result-is) (builds _ _ _ _ refl (one_field (of_path path) _ _ (rw w.in-Mkdir.is at c.requires) first))
       | in-Symlink+in_ok-data-in-Symlink w ↦ rw (w.in-Symlink.is, w.result-is)
-          (two_fields (of_path path) (of_data w.in_ok-data-in-Symlink.field-0) _ _ _ (rw w.in-Symlink.is at c.requires) first w.in_ok-data-in-Symlink.ensures)
-      | in-Unlink w ↦ rw (w.in-Unlink.is, w.result-is) (one_field (of_path path) _ _ (rw w.in-Unlink.is at c.requires) first)
-      | in-Rmdir w ↦ rw (w.in-Rmdir.is, w.result-is) (one_field (of_path path) _ _ (rw w.in-Rmdir.is at c.requires) first)
+          (builds _ _ _ _ refl (two_fields (of_path path) (of_data w.in_ok-data-in-Symlink.field-0) _ _ _ (rw w.in-Symlink.is at c.requires) first w.in_ok-data-in-Symlink.ensures))
+      | in-Unlink w ↦ rw (w.in-Unlink.is, w.result-is) (builds _ _ _ _ refl (one_field (of_path path) _ _ (rw w.in-Unlink.is at c.requires) first))
+      | in-Rmdir w ↦ rw (w.in-Rmdir.is, w.result-is) (builds _ _ _ _ refl (one_field (of_path path) _ _ (rw w.in-Rmdir.is at c.requires) first))
       | in-Rename+in_ok-path-in-Rename w ↦ rw (w.in-Rename.is, w.result-is)
-          (two_fields (of_path path) (of_path w.in_ok-path-in-Rename.field-0) _ _ _ (rw w.in-Rename.is at c.requires) first w.in_ok-path-in-Rename.ensures)
+          (builds _ _ _ _ refl (two_fields (of_path path) (of_path w.in_ok-path-in-Rename.field-0) _ _ _ (rw w.in-Rename.is at c.requires) first w.in_ok-path-in-Rename.ensures))
     ]

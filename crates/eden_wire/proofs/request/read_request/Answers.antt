@@ -21,4 +21,4 @@ returns-in_err-build-in-Some-None-clause-memory c =
 pub returns-in_ok-build-in-Some-None-clause-item : goal.returns-in_ok-build-in-Some-None-clause-item
 returns-in_ok-build-in-Some-None-clause-item c =
     asked _ _ _ c.in-Some.word c.in_ok-build-in-Some-None.field-0 (cut_at _ _ _ _ c.split_at.ensures.front c.split_at.ensures.back c.part_len.ensures) c.in-Some.ensures
-    (rw (c.shape.ensures, c.in-Some-None.field-0-is) at c.in-Some-None.ensures) c.in_ok-build-in-Some-None.ensures.word c.in_ok-build-in-Some-None.ensures.fields
+    (rw (c.shape.ensures, c.in-Some-None.field-0-is) at c.in-Some-None.ensures) c.in_ok-build-in-Some-None.ensures
