@@ -9,9 +9,9 @@ use Rattle.std.proofs.lemmas.Bool.Decides.{Decides-below_and, Decides-eqb, nat_t
 use Rattle.hex.specs.Hex.{encode_lower, encode_with, lower_digits, decode_of, IsBytes}
 use Rattle.hex.proofs.HexLemmas.{length-encode_with, decode_of-encode_lower}
 use Rattle.eden_wire.specs.Names.{AreBytes}
-use Rattle.eden_wire.specs.Fields.{hex_text}
 use Rattle.eden_wire.specs.Splits.{Lacks}
 use Rattle.eden_wire.specs.Scans.{is_lower_digit, SpellsData}
+use Rattle.eden_wire.specs.Sorts.{hex_text}
 
 abbrev pub IsDigit : ℕ → Type 0
 IsDigit c = is_lower_digit c ≡ true

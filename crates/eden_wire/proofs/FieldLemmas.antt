@@ -7,13 +7,13 @@ use Rattle.std.proofs.lemmas.List.{take_all}
 use Rattle.std.specs.Option.{option_or}
 use Rattle.std.specs.Str.{bytes_eq}
 use Rattle.eden_model.specs.declared.errno.Errno.{Errno}
-use Rattle.eden_wire.specs.Names.{is_plain, name_text, component_text, path_text, SpellsName, AreBytes}
-use Rattle.eden_wire.specs.Fields.{Field, bit_text, hex_text, after_text, field_text, fields_text, IsAfter, IsField, field_refusal, after_refusal, first_refusal}
-use Rattle.eden_wire.specs.Words.{sort_of, AreFields}
+use Rattle.eden_wire.specs.Names.{is_plain, name_text, SpellsName, AreBytes}
+use Rattle.eden_wire.specs.Fields.{Field, field_text, IsField, field_refusal, first_refusal}
 use Rattle.eden_wire.specs.Fields.Field.{of_path, of_number, of_bit, of_data, of_after}
 use Rattle.eden_wire.specs.Splits.{Lacks, IsCutAt, IsPart, BeginsWith}
 use Rattle.eden_wire.specs.Scans.{ScansName, ScansPath, ScansAfter, SpellsNoName, SpellsNoAfter, SpellsPath, SpellsAfter, SpellsData, SpellsNo, Scans, SpellNoFields, ScansFields, NextIs, Takes}
 use Rattle.eden_wire.specs.Scans.{LastIs}
+use Rattle.eden_wire.specs.Sorts.{component_text, path_text, bit_text, hex_text, after_text, fields_text, IsAfter, sort_of, AreFields}
 use Rattle.eden_wire.specs.declared.word.Sort.{Sort}
 use Rattle.eden_wire.specs.declared.word.Sort.TheVariants as sort
 use Rattle.eden_wire.proofs.NumberLemmas.{digit_range, spelled_value}
@@ -199,7 +199,7 @@ scans_after text len refusal scan = record { after = Some scan.name; good = scan
 pub spells_name : (text : List ℕ) → (text ≡ codes "-" → ⊥) → SpellsAfter text → SpellsName text
 spells_name text not h = at h.0 h.1 h.2 h.3
   where
-    at : (after : Option (List ℕ)) → IsAfter after → text ≡ after_text after → after_refusal after ≡ None → SpellsName text
+    at : (after : Option (List ℕ)) → IsAfter after → text ≡ after_text after → field_refusal (of_after after) ≡ None → SpellsName text
     at None good e fine = absurd (not e)
     at (Some name) good e fine = (name, good, e, fine)
 
@@ -255,7 +255,7 @@ pub next_field : (s : Sort) (text part more : List ℕ) → NextIs s text → Is
 next_field s text part more next cut =
     let scan = next.1 in
     let first = first_field s next.0 scan.fields text part more cut scan.good scan.spelled in
-    let none : None ≡ option_or (field_refusal first.field) (first_refusal first.later) = scan.refused ∙ ap first_refusal first.whole in
+    let none : None ≡ option_or (field_refusal first.field) (first_refusal field_refusal first.later) = scan.refused ∙ ap (first_refusal field_refusal) first.whole in
     record { spelt = first.field; is_sort = first.is_sort; good = first.good; spelled = first.spelled; refused = (first_none _ _ none).0 }
 
 pub last_part : (s : Sort) (text inside : List ℕ) → LastIs s text → text ≡ 32 ∷ inside → IsPart 32 text inside []
@@ -278,7 +278,7 @@ takes f text part more cut good spelled = record {
   whole = cut.whole ∙ ap (λ l. 32 ∷ (l ++ more)) spelled;
   on = λ sorts scan.
       let first = first_field (sort_of f) sorts scan.fields text part more cut scan.good scan.spelled in
-      let none : None ≡ option_or (field_refusal first.field) (first_refusal first.later) = scan.refused ∙ ap first_refusal first.whole in
+      let none : None ≡ option_or (field_refusal first.field) (first_refusal field_refusal first.later) = scan.refused ∙ ap (first_refusal field_refusal) first.whole in
       record { fields = first.later; good = first.fit; spelled = first.rest; refused = (first_none _ _ none).1 };
 }
 

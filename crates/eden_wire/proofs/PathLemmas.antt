@@ -2,9 +2,10 @@
 use Rattle.std.proofs.Common.{eqb-true, ◌==◌, ◌≡◌, ◌≢◌, ℕ, ◌+◌, ◌<◌, List, [], ◌∷◌, ◌++◌, length, Bool, true, false, cond, sym, ap, ◌∙◌, subst, refl, append_assoc, append-nil, arith}
 use Rattle.std.proofs.lemmas.Bool.{false≢true}
 use Rattle.std.specs.List.{AllByRecursion, flat_map}
-use Rattle.eden_wire.specs.Names.{is_plain, byte_text, name_text, component_text, path_text, IsComponent}
+use Rattle.eden_wire.specs.Names.{is_plain, byte_text, name_text, IsComponent}
 use Rattle.eden_wire.specs.Splits.{Lacks, IsCutAt, IsPart, BeginsWith}
 use Rattle.eden_wire.specs.Scans.{SpellsNoName}
+use Rattle.eden_wire.specs.Sorts.{component_text, path_text}
 use Rattle.eden_wire.proofs.NameLemmas.{name_same}
 
 pub lacks-append : (mark : ℕ) (xs ys : List ℕ) → Lacks mark xs → Lacks mark ys → Lacks mark (xs ++ ys)

@@ -8,13 +8,14 @@ use Rattle.std.specs.Str.{bytes_eq}
 use Rattle.eden_model.specs.declared.errno.Errno.{Errno}
 use Rattle.eden_model.specs.declared.request.Request.{Request}
 use Rattle.eden_model.specs.declared.request.Request.TheVariants as request
-use Rattle.eden_wire.specs.Words.{word_text, shape_of, sort_of, AreFields}
-use Rattle.eden_wire.specs.Fields.{Field, IsField, field_text, fields_text, first_refusal}
+use Rattle.eden_wire.specs.Words.{word_text, shape_of}
+use Rattle.eden_wire.specs.Fields.{Field, IsField, field_text, field_refusal, first_refusal}
 use Rattle.eden_wire.specs.Fields.Field.{of_path, of_number, of_bit, of_data, of_after}
 use Rattle.eden_wire.specs.Requests.{spelling, Spells}
 use Rattle.eden_wire.specs.Splits.{Lacks, IsCutAt, IsFirstPart}
 use Rattle.eden_wire.specs.Scans.{SpellNoFields, ScansFields, SpellsFields, SpellsRequest, NextIs, LastIs, Takes}
 use Rattle.eden_wire.specs.Lines.{Reads, AsksSome, OneItem, NoLinePatches}
+use Rattle.eden_wire.specs.Sorts.{sort_of, AreFields, fields_text}
 use Rattle.eden_wire.specs.declared.request.Item.TheVariants.{Asks, Refuses, Bad}
 use Rattle.eden_wire.specs.declared.word.Sort.{Sort}
 use Rattle.eden_wire.specs.declared.word.Sort.TheVariants as sort
@@ -348,7 +349,7 @@ asks line first rest w refusal q cut is scan so = record {
   parts = so.parts;
   text = cut.whole ∙ ap (λ l. l ++ rest) is ∙ ap (λ l. word_text w ++ l) so.spelled.whole;
   good = are_good (shape_of w) so.fields so.spelled.good;
-  refused = scan.refused ∙ ap first_refusal (fields_same (shape_of w) scan.fields so.fields scan.good so.spelled.good (sym scan.spelled ∙ so.spelled.whole));
+  refused = scan.refused ∙ ap (first_refusal field_refusal) (fields_same (shape_of w) scan.fields so.fields scan.good so.spelled.good (sym scan.spelled ∙ so.spelled.whole));
 }
 
 scanned : (line first rest : List ℕ) (w : Word) (refusal : Option Errno) → Cut line first rest → first ≡ word_text w → ScansFields (shape_of w) rest refusal
@@ -381,7 +382,7 @@ one_spelling q r line x y h k =
     let same : v.word ≡ w.word = word_same v.word w.word begins in
     let all : h.fields ≡ k.fields = fields_same (shape_of w.word) h.fields k.fields (subst (λ u. AreFields (shape_of u) h.fields) same v.sorts) w.sorts ends in
     let both : Some q ≡ Some r = sym v.back ∙ ap (λ u. request_of u h.fields) same ∙ ap (request_of w.word) all ∙ w.back in
-    (cc, h.refused ∙ ap first_refusal all ∙ sym k.refused)
+    (cc, h.refused ∙ ap (first_refusal field_refusal) all ∙ sym k.refused)
 
 pub no_line_patches : NoLinePatches
 unfolding Reads

@@ -13,10 +13,11 @@ use Rattle.std.proofs.lemmas.List.Sums.{sum_by-append}
 use Rattle.eden_model.specs.Names.{is_no_name, name_refusal}
 use Rattle.eden_model.specs.Paths.{path_len, path_refusal}
 use Rattle.eden_model.specs.declared.errno.Errno.{Errno}
-use Rattle.eden_wire.specs.Names.{is_plain, byte_text, name_text, path_text, IsComponent, AreBytes, SpellsName}
-use Rattle.eden_wire.specs.Fields.{names_refusal}
+use Rattle.eden_wire.specs.Names.{is_plain, byte_text, name_text, IsComponent, AreBytes, SpellsName}
 use Rattle.eden_wire.specs.Splits.{IsCutAt, IsPart}
 use Rattle.eden_wire.specs.Scans.{is_dots, refusal_by, ScansName, SpellsNoName}
+use Rattle.eden_wire.specs.Fields.{first_refusal}
+use Rattle.eden_wire.specs.Sorts.{path_text}
 use Rattle.eden_wire.proofs.NameLemmas.{plain_text, plain_are_bytes, plain_lack, are_bytes-append, text_test, spells_nothing, name_same}
 use Rattle.eden_wire.proofs.PathLemmas.{AreComponents, parts_text, parts-append, next_at, cut_parts, no_part}
 
@@ -105,6 +106,10 @@ pub scans_plain : (text : List ℕ) (len : ℕ) (no_name : Bool) (refusal : Opti
 scans_plain text len no_name refusal some plain all no_name_is refused =
     scans_name some (plain_front text [] len (omega (arith, all)) (ap (list_all is_plain) (take_all len text (omega (arith, all))) ∙ plain) (sym (ap (λ k. drop k text) all ∙ drop-length text))) refl
     no_name_is refused
+
+-- the first refusal of the components
+abbrev names_refusal : List (List ℕ) → Option Errno
+names_refusal names = first_refusal name_refusal names
 
 -- of a path's text the spelling of some names was looked through, and the rest is still there
 pub record PathSoFar (text rest : List ℕ) (refusal : Option Errno) (names bytes : ℕ) : Type 0 where

@@ -1,7 +1,8 @@
 pub mod Names
-pub mod Words
 pub mod Fields
 pub mod Requests
+pub mod Words
+pub mod Sorts
 pub mod Replies
 pub mod Lines
 pub mod Writing

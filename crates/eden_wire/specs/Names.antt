@@ -1,4 +1,4 @@
--- How names and paths are spelled: percent-encoding (RFC 3986, section 2.1) with one spelling for each byte.
+-- How names are spelled: percent-encoding (RFC 3986, section 2.1) with one spelling for each byte.
 use Rattle.std.specs.Prelude.{ℕ, ◌+◌, ◌/◌, ◌%◌, ◌<◌, ◌≡◌, Bool, ◌||◌, ◌&&◌, ◌==◌, nat_lt, nat_le, List, [], ◌∷◌, length, if◌then◌else◌, None}
 use Rattle.std.specs.List.{flat_map, AllByRecursion}
 use Rattle.eden_model.specs.Names.{name_refusal}
@@ -17,14 +17,6 @@ byte_text b = if is_plain b then b ∷ [] else 37 ∷ upper_digit (b / 16) ∷ u
 
 abbrev pub name_text : List ℕ → List ℕ
 name_text name = flat_map byte_text name
-
--- `/`, or for each component `/` and its text
-abbrev pub component_text : List ℕ → List ℕ
-component_text name = 47 ∷ name_text name
-
-abbrev pub path_text : List (List ℕ) → List ℕ
-path_text [] = 47 ∷ []
-path_text (name ∷ names) = flat_map component_text (name ∷ names)
 
 abbrev pub AreBytes : List ℕ → Type 0
 AreBytes bytes = AllByRecursion (λ b. b < 256) bytes

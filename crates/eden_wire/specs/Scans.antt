@@ -8,11 +8,12 @@ use Rattle.eden_model.specs.Paths.{most_names, most_path}
 use Rattle.eden_model.specs.declared.errno.Errno.{Errno}
 use Rattle.eden_model.specs.declared.errno.Errno.TheVariants.{EINVAL, ENAMETOOLONG}
 use Rattle.eden_model.specs.declared.request.Request.{Request}
-use Rattle.eden_wire.specs.Names.{name_text, path_text, IsComponent, AreBytes}
-use Rattle.eden_wire.specs.Fields.{Field, hex_text, after_text, field_text, fields_text, IsAfter, IsField}
-use Rattle.eden_wire.specs.Fields.{spelled_refusal, after_refusal, field_refusal, first_refusal}
+use Rattle.eden_wire.specs.Names.{name_text, IsComponent, AreBytes}
+use Rattle.eden_wire.specs.Fields.{Field, field_text, IsField, field_refusal, first_refusal}
+use Rattle.eden_wire.specs.Fields.Field.{of_path, of_after}
 use Rattle.eden_wire.specs.Requests.{spelling}
-use Rattle.eden_wire.specs.Words.{word_text, shape_of, sort_of, AreFields}
+use Rattle.eden_wire.specs.Words.{word_text, shape_of}
+use Rattle.eden_wire.specs.Sorts.{path_text, hex_text, after_text, fields_text, IsAfter, sort_of, AreFields}
 use Rattle.eden_wire.specs.declared.word.Word.{Word}
 use Rattle.eden_wire.specs.declared.word.Sort.{Sort}
 
@@ -46,25 +47,25 @@ pub record ScansAfter (text : List ℕ) (refusal : Option Errno) : Type 0 where
   pub after : Option (List ℕ)
   pub good : IsAfter after
   pub spelled : text ≡ after_text after
-  pub refused : refusal ≡ after_refusal after
+  pub refused : refusal ≡ field_refusal (of_after after)
 
 abbrev pub SpellsNoPath : List ℕ → Type 0
 SpellsNoPath text = (path : List (List ℕ)) → AllByRecursion IsComponent path → text ≡ path_text path → ⊥
 
 -- the text of a path
 abbrev pub SpellsPath : List ℕ → Type 0
-SpellsPath text = (path : List (List ℕ)) × AllByRecursion IsComponent path × (text ≡ path_text path) × (spelled_refusal path ≡ None)
+SpellsPath text = (path : List (List ℕ)) × AllByRecursion IsComponent path × (text ≡ path_text path) × (field_refusal (of_path path) ≡ None)
 
 -- the text of a name that may be left out
 abbrev pub SpellsAfter : List ℕ → Type 0
-SpellsAfter text = (after : Option (List ℕ)) × IsAfter after × (text ≡ after_text after) × (after_refusal after ≡ None)
+SpellsAfter text = (after : Option (List ℕ)) × IsAfter after × (text ≡ after_text after) × (field_refusal (of_after after) ≡ None)
 
 -- the text spells a path, which is refused so
 pub record ScansPath (text : List ℕ) (refusal : Option Errno) : Type 0 where
   pub path : List (List ℕ)
   pub good : AllByRecursion IsComponent path
   pub spelled : text ≡ path_text path
-  pub refused : refusal ≡ spelled_refusal path
+  pub refused : refusal ≡ field_refusal (of_path path)
 
 -- a lower-case hexadecimal digit
 abbrev pub is_lower_digit : ℕ → Bool
@@ -93,7 +94,7 @@ pub record ScansFields (sorts : List Sort) (text : List ℕ) (refusal : Option E
   pub fields : List Field
   pub good : AreFields sorts fields
   pub spelled : text ≡ fields_text fields
-  pub refused : refusal ≡ first_refusal fields
+  pub refused : refusal ≡ first_refusal field_refusal fields
 
 -- the text is that of these fields
 pub record SpellsFields (sorts : List Sort) (text : List ℕ) (fields : List Field) : Type 0 where

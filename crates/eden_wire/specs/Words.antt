@@ -1,7 +1,5 @@
 -- The first word of a line, and the sorts of the fields behind it.
-use Rattle.std.specs.Prelude.{ℕ, ◌≡◌, List, [], ◌∷◌, codes, ⊤}
-use Rattle.eden_wire.specs.Fields.{Field, IsField}
-use Rattle.eden_wire.specs.Fields.Field.{of_path, of_number, of_bit, of_data, of_after}
+use Rattle.std.specs.Prelude.{ℕ, List, [], ◌∷◌, codes}
 use Rattle.eden_wire.specs.declared.word.Word.{Word}
 use Rattle.eden_wire.specs.declared.word.Word.TheVariants as word
 use Rattle.eden_wire.specs.declared.word.Sort.{Sort}
@@ -38,17 +36,3 @@ shape_of word.Symlink = Path ∷ Data ∷ []
 shape_of word.Unlink = Path ∷ []
 shape_of word.Rmdir = Path ∷ []
 shape_of word.Rename = Path ∷ Path ∷ []
-
-abbrev pub sort_of : Field → Sort
-sort_of (of_path path) = Path
-sort_of (of_number n) = Number
-sort_of (of_bit bit) = Bit
-sort_of (of_data bytes) = Data
-sort_of (of_after after) = After
-
--- fields of these sorts, as they may be spelled
-abbrev pub AreFields : List Sort → List Field → Type 0
-AreFields [] [] = ⊤
-AreFields [] (f ∷ fields) = ⊥
-AreFields (s ∷ sorts) [] = ⊥
-AreFields (s ∷ sorts) (f ∷ fields) = (sort_of f ≡ s) × IsField f × AreFields sorts fields

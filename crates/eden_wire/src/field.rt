@@ -1,9 +1,9 @@
 ghost use Rattle.std.specs.Prelude.{◌≡◌, ◌<◌, ◌^◌, ◌≢◌, ℕ, Bool, List, length, decimal, MatchOption, MatchBool, IfOk};
 ghost use Rattle.eden_wire.specs.Names.{AreBytes};
-ghost use Rattle.eden_wire.specs.Fields.{bit_text, hex_text};
 ghost use Rattle.eden_wire.specs.Fields.Field.{of_path, of_number, of_bit, of_data, of_after};
 ghost use Rattle.eden_wire.specs.declared.word.Sort.TheVariants as sort;
 ghost use Rattle.eden_wire.specs.Scans.{SpellsNo, Scans, SpellNoFields, ScansFields, SpellsData, NextIs, LastIs, Takes};
+ghost use Rattle.eden_wire.specs.Sorts.{bit_text, hex_text};
 
 use crate::hex_text::{are_digits, decode};
 use crate::name_text::{read_after, scan_after};

@@ -3,7 +3,7 @@ ghost use Rattle.std.specs.List.{list_all};
 ghost use Rattle.eden_wire.specs.Names.{is_plain, name_text, AreBytes, IsComponent, SpellsName};
 ghost use Rattle.eden_wire.specs.Scans.{is_dots, refusal_by, ScansName, SpellsNoName, ScansAfter, SpellsAfter};
 ghost use Rattle.eden_wire.specs.Scans.{SpellsNoAfter};
-ghost use Rattle.eden_wire.specs.Fields.{IsAfter, after_text};
+ghost use Rattle.eden_wire.specs.Sorts.{IsAfter, after_text};
 
 use crate::escape::{first_byte, plain_len};
 use eden_model::{Errno, Name};

@@ -1,8 +1,9 @@
 ghost use Rattle.std.specs.Prelude.{◌≡◌, take, true, IsTrue, MatchOption, IfOk};
 ghost use Rattle.std.specs.List.{AllByRecursion, list_all};
-ghost use Rattle.eden_wire.specs.Names.{is_plain, path_text, IsComponent};
+ghost use Rattle.eden_wire.specs.Names.{is_plain, IsComponent};
 ghost use Rattle.eden_wire.specs.Splits.{BeginsWith, IsFirstPart, IsPart};
 ghost use Rattle.eden_wire.specs.Scans.{too_long_by, ScansPath, SpellsPath, SpellsNoPath};
+ghost use Rattle.eden_wire.specs.Sorts.{path_text};
 
 use crate::escape::plain_len;
 use crate::name_text::{read_component, scan_component};
