@@ -1,9 +1,7 @@
 -- Lemmas on hexadecimal text that is written in pieces.
-use Rattle.std.proofs.Common.{◌≡◌, ℕ, ◌/◌, ◌%◌, ◌∷◌, List, [], ◌++◌, length, take, drop, ◌==◌, true, false, refl, sym, ap, ◌∙◌, take-append-drop, append_assoc, append-nil, codes, eqb-true, arith}
-use Rattle.std.proofs.lemmas.Bool.{false≢true}
+use Rattle.std.proofs.Common.{◌≡◌, ℕ, ◌/◌, ◌%◌, ◌∷◌, List, [], ◌++◌, length, take, drop, ◌==◌, true, refl, sym, ap, ◌∙◌, take-append-drop, append_assoc, append-nil, eqb-true, arith}
 use Rattle.std.specs.Prelude.{slice_index}
 use Rattle.hex.specs.Hex.{encode_lower, encode_with, lower_digits}
-use Rattle.eden_wire.specs.Replies.{data_field}
 
 encode_with-append : (t xs ys : List ℕ) → encode_with t (xs ++ ys) ≡ encode_with t xs ++ encode_with t ys
 unfolding encode_with
@@ -16,10 +14,6 @@ encode_lower-append xs ys = encode_with-append lower_digits xs ys
 pub encode_lower-none : encode_lower [] ≡ []
 unfolding encode_with
 encode_lower-none = refl
-
-pub data_some : (bytes : List ℕ) → false ≡ (length bytes == 0) → data_field bytes ≡ codes " " ++ encode_lower bytes
-data_some [] e = absurd (false≢true e)
-data_some (b ∷ bytes) e = refl
 
 -- one piece more
 pub hex_split : (text done rest a b : List ℕ) (n : ℕ) → text ≡ done ++ encode_lower rest → a ≡ take n rest → b ≡ drop n rest → text ≡ (done ++ encode_lower a) ++ encode_lower b

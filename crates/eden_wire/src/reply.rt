@@ -1,13 +1,14 @@
-ghost use Rattle.std.specs.Prelude.{◌≡◌, ◌≤◌, ◌++◌, length, codes, decimal};
+ghost use Rattle.std.specs.Prelude.{◌≡◌, ◌≤◌, ◌++◌, length, codes, decimal, if◌then◌else◌, Some, Err};
+ghost use Rattle.eden_model.specs.declared.fault.CallFault.TheVariants as call;
+ghost use Rattle.eden_model.specs.declared.fault.Fault.TheVariants as fault;
+ghost use Rattle.eden_model.specs.declared.fault.StartFault.TheVariants as start;
+ghost use Rattle.eden_model.specs.declared.reply.Reply.TheVariants as reply;
 ghost use Rattle.eden_wire.specs.declared.reply.TheConstants.{PIECE, SHORT};
 ghost use Rattle.std.specs.List.{flat_map};
 ghost use Rattle.hex.specs.Hex.{encode_lower};
 ghost use Rattle.eden_wire.specs.Writing.{Writes, Grows};
 ghost use Rattle.eden_wire.specs.Names.{name_text};
-ghost use Rattle.eden_wire.specs.Replies.{kind_word, data_field, entry_text, more_word, line_feed, kind_text};
-ghost use Rattle.eden_wire.specs.Replies.{stat_text, count_text, data_text, entries_text, error_text, cause_word};
-ghost use Rattle.eden_wire.specs.Replies.{fetch_text, fault_text, call_fault_text, history_text, foreign_text};
-ghost use Rattle.eden_wire.specs.Replies.{start_fault_text, reply_text};
+ghost use Rattle.eden_wire.specs.Replies.{kind_word, entry_text, error_text, cause_word, reply_text, answer_text};
 
 use crate::escape::plain_len;
 use crate::hex_text::encode;
@@ -101,7 +102,7 @@ fn put_short<W: Write>(output: &mut Output, writer: &mut W, bytes: &[u8])
 }
 
 fn kind_line(kind: Kind) -> &'static [u8]
-    ensures { result.now ≡ kind_text kind }
+    ensures { result.now ≡ reply_text (reply.Kind kind) }
 {
     match kind {
         Kind::File => b"kind file\n",
@@ -124,7 +125,7 @@ fn stat_front(kind: Kind) -> &'static [u8]
 
 fn put_stat<W: Write>(output: &mut Output, writer: &mut W, kind: Kind, size: u64, number: u64)
     ensures { Grows (W.contents writer.old) (W.contents writer.new) output.old output.new
-        (stat_text kind size number) }
+        (reply_text (reply.Stat kind size number)) }
 {
     output.put(writer, stat_front(kind));
     put_number(output, writer, size);
@@ -134,30 +135,26 @@ fn put_stat<W: Write>(output: &mut Output, writer: &mut W, kind: Kind, size: u64
 }
 
 fn put_count<W: Write>(output: &mut Output, writer: &mut W, count: u64)
-    ensures { Grows (W.contents writer.old) (W.contents writer.new) output.old output.new (count_text count) }
+    ensures { Grows (W.contents writer.old) (W.contents writer.new) output.old output.new
+        (reply_text (reply.Count count)) }
 {
     output.put(writer, b"count ");
     put_number(output, writer, count);
     output.put(writer, b"\n");
 }
 
-// Nothing for no bytes.
-fn put_data_field<W: Write>(output: &mut Output, writer: &mut W, bytes: &[u8])
-    ensures { Grows (W.contents writer.old) (W.contents writer.new) output.old output.new (data_field bytes.now) }
+fn put_data<W: Write>(output: &mut Output, writer: &mut W, bytes: &[u8])
+    ensures { Grows (W.contents writer.old) (W.contents writer.new) output.old output.new
+        (reply_text (reply.Data bytes.now)) }
 {
     if bytes.is_empty() {
+        output.put(writer, b"data 0\n");
         return;
     }
-    output.put(writer, b" ");
-    put_hex(output, writer, bytes);
-}
-
-fn put_data<W: Write>(output: &mut Output, writer: &mut W, bytes: &[u8])
-    ensures { Grows (W.contents writer.old) (W.contents writer.new) output.old output.new (data_text bytes.now) }
-{
     output.put(writer, b"data ");
     put_number(output, writer, bytes.len() as u64);
-    put_data_field(output, writer, bytes);
+    output.put(writer, b" ");
+    put_hex(output, writer, bytes);
     output.put(writer, b"\n");
 }
 
@@ -190,24 +187,24 @@ fn put_rows<W: Write>(output: &mut Output, writer: &mut W, rows: &[(Name, Kind)]
 }
 
 fn put_more<W: Write>(output: &mut Output, writer: &mut W, more: bool)
-    ensures { Grows (W.contents writer.old) (W.contents writer.new) output.old output.new (more_word more) }
+    ensures { Grows (W.contents writer.old) (W.contents writer.new) output.old output.new
+        (if more then codes " more\n" else codes " end\n") }
 {
     if more {
-        output.put(writer, b" more");
+        output.put(writer, b" more\n");
     } else {
-        output.put(writer, b" end");
+        output.put(writer, b" end\n");
     }
 }
 
 fn put_entries<W: Write>(output: &mut Output, writer: &mut W, entries: &Entries, more: bool)
     ensures { Grows (W.contents writer.old) (W.contents writer.new) output.old output.new
-        (entries_text entries.now more) }
+        (reply_text (reply.Entries entries.now more)) }
 {
     output.put(writer, b"entries ");
     put_number(output, writer, entries.len() as u64);
     put_rows(output, writer, entries.as_slice());
     put_more(output, writer, more);
-    output.put(writer, b"\n");
 }
 
 fn error_line(errno: Errno) -> &'static [u8]
@@ -235,7 +232,7 @@ pub(crate) fn put_error<W: Write>(output: &mut Output, writer: &mut W, errno: Er
 }
 
 fn cause_line(cause: Cause) -> &'static [u8]
-    ensures { result.now ≡ cause_word cause ++ line_feed }
+    ensures { result.now ≡ cause_word cause ++ codes "\n" }
 {
     match cause {
         Cause::Missing => b"Missing\n",
@@ -257,7 +254,8 @@ fn put_id<W: Write>(output: &mut Output, writer: &mut W, id: Id)
 }
 
 fn put_fetch<W: Write>(output: &mut Output, writer: &mut W, id: Id, cause: Cause)
-    ensures { Grows (W.contents writer.old) (W.contents writer.new) output.old output.new (fetch_text id.bytes cause) }
+    ensures { Grows (W.contents writer.old) (W.contents writer.new) output.old output.new
+        (reply_text (reply.Fault (fault.Fetch id cause))) }
 {
     output.put(writer, b"fault fetch ");
     put_id(output, writer, id);
@@ -266,7 +264,8 @@ fn put_fetch<W: Write>(output: &mut Output, writer: &mut W, id: Id, cause: Cause
 }
 
 fn put_fault<W: Write>(output: &mut Output, writer: &mut W, fault: Fault)
-    ensures { Grows (W.contents writer.old) (W.contents writer.new) output.old output.new (fault_text fault) }
+    ensures { Grows (W.contents writer.old) (W.contents writer.new) output.old output.new
+        (reply_text (reply.Fault fault)) }
 {
     match fault {
         Fault::Fetch(id, cause) => put_fetch(output, writer, id, cause),
@@ -277,7 +276,8 @@ fn put_fault<W: Write>(output: &mut Output, writer: &mut W, fault: Fault)
 }
 
 fn put_history<W: Write>(output: &mut Output, writer: &mut W, limit: u64)
-    ensures { Grows (W.contents writer.old) (W.contents writer.new) output.old output.new (history_text limit) }
+    ensures { Grows (W.contents writer.old) (W.contents writer.new) output.old output.new
+        (answer_text (Some (Err (call.Start (start.HistoryFull limit))))) }
 {
     output.put(writer, b"fault history ");
     put_number(output, writer, limit);
@@ -285,7 +285,8 @@ fn put_history<W: Write>(output: &mut Output, writer: &mut W, limit: u64)
 }
 
 fn put_start_fault<W: Write>(output: &mut Output, writer: &mut W, fault: StartFault)
-    ensures { Grows (W.contents writer.old) (W.contents writer.new) output.old output.new (start_fault_text fault) }
+    ensures { Grows (W.contents writer.old) (W.contents writer.new) output.old output.new
+        (answer_text (Some (Err (call.Start fault)))) }
 {
     match fault {
         StartFault::Busy => output.put(writer, b"fault busy\n"),
@@ -296,7 +297,8 @@ fn put_start_fault<W: Write>(output: &mut Output, writer: &mut W, fault: StartFa
 }
 
 fn put_foreign<W: Write>(output: &mut Output, writer: &mut W, floor: u64, length: u64)
-    ensures { Grows (W.contents writer.old) (W.contents writer.new) output.old output.new (foreign_text floor length) }
+    ensures { Grows (W.contents writer.old) (W.contents writer.new) output.old output.new
+        (answer_text (Some (Err (call.Foreign floor length)))) }
 {
     output.put(writer, b"fault foreign ");
     put_number(output, writer, floor);
@@ -307,7 +309,8 @@ fn put_foreign<W: Write>(output: &mut Output, writer: &mut W, floor: u64, length
 
 /// Hands over the text of a fault of a call.
 pub(crate) fn put_call_fault<W: Write>(output: &mut Output, writer: &mut W, fault: CallFault)
-    ensures { Grows (W.contents writer.old) (W.contents writer.new) output.old output.new (call_fault_text fault) }
+    ensures { Grows (W.contents writer.old) (W.contents writer.new) output.old output.new
+        (answer_text (Some (Err fault))) }
 {
     match fault {
         CallFault::Start(start) => put_start_fault(output, writer, start),

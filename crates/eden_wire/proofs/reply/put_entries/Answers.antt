@@ -8,4 +8,4 @@ pub returns : goal.returns
 returns g c =
     let count = grows_as (ap decimal c.len.ensures) c.put_number.ensures in
     let rows = grows_as (ap (flat_map entry_text) c.as_slice.ensures) c.put_rows.ensures in
-    grows_then (grows_then (grows_then (grows_then c.put.ensures count) rows) c.put_more.ensures) c.put-2.ensures
+    grows_then (grows_then (grows_then c.put.ensures count) rows) c.put_more.ensures
