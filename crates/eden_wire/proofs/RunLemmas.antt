@@ -8,11 +8,12 @@ use Rattle.std.specs.Prelude.{⊤}
 use Rattle.std.specs.Io.KnownBytes.{Appends, Consumes, IsAtEnd, Keeps}
 use Rattle.eden_model.specs.declared.errno.Errno.TheVariants.{EPROTO}
 use Rattle.eden_wire.specs.Replies.{error_text}
-use Rattle.eden_wire.specs.Lines.{longest_line, Lines, IsBadEnd, IsCut, Ends}
+use Rattle.eden_wire.specs.Lines.{longest_line, Lines, Ends}
+use Rattle.eden_wire.specs.Lines.Ends.{whole, cut}
 use Rattle.eden_wire.specs.Reading.{ReadSome}
 use Rattle.eden_wire.specs.Writing.{WritesFront, Writes, IsIdle}
 use Rattle.eden_wire.specs.Serving.{Answering, Known, texts, Serves, Said, Session}
-use Rattle.eden_wire.specs.Turns.{Answered, Ended}
+use Rattle.eden_wire.specs.Turns.{IsBadEnd, Answered, Ended}
 use Rattle.eden_wire.specs.declared.request.Item.{Item}
 use Rattle.eden_wire.specs.declared.request.Item.TheVariants.{Bad}
 use Rattle.eden_wire.specs.declared.output.Output.{Output}
@@ -36,8 +37,8 @@ writes_then (Ok v) o p q x y done wrote = Appends-trans o p q x y done wrote
 writes_then (Err e) o p q x y done wrote = front_then o p q x y done wrote
 
 -- the input ends with a line that is no request or too long
-bad_end : (rest : List ℕ) (known : Known) (last : List Item) → (last ≡ Bad ∷ []) × IsBadEnd rest → Ends rest known last
-bad_end rest known last bad = rw bad.0 (inl bad.1)
+bad_end : (rest : List ℕ) (unread : Known) (last : List Item) → (last ≡ Bad ∷ []) × IsBadEnd rest → Ends unread rest last
+bad_end rest unread last bad = rw bad.0 (bad.1 unread)
 
 module _ {S : Type 0} (answers : Answering S) where
   -- all that a session has read was answered like one piece
@@ -163,7 +164,7 @@ module _ {S : Type 0} {answers : Answering S} {service : S × S} {input written 
   session_unwritten so = session_of so (Err fault.Write) (ends so.answered.left, so.answered.wrote)
     where
       ends : (so.answered.last ≡ []) ⊎ ((so.answered.last ≡ Bad ∷ []) × IsBadEnd so.answered.rest)
-          → (so.answered.last ≡ []) ⊎ Ends so.answered.rest input.1 so.answered.last
+          → (so.answered.last ≡ []) ⊎ Ends input.1 so.answered.rest so.answered.last
       ends (inl none) = inl none
       ends (inr bad) = inr (bad_end _ _ _ bad)
 
@@ -172,8 +173,8 @@ module _ {S : Type 0} {answers : Answering S} {service : S × S} {input written 
   session_unread so = session_of so (Err fault.Read) (so.answered.left.0, so.answered.left.2, so.answered.wrote)
 
   -- the input ended within a line
-  cut_end : Through answers service input written output rest (Ok true) → 0 < length rest → IsAtEnd input.1 → IsCut rest input.1
-  cut_end so some end = record { one = rw so.answered.left.1 at so.answered.left.2; some = some; at_end = end }
+  cut_end : Through answers service input written output rest (Ok true) → 0 < length rest → IsAtEnd input.1 → Ends input.1 rest (Bad ∷ [])
+  cut_end so some end = cut rest (rw so.answered.left.1 at so.answered.left.2) some end
 
 module _ {S : Type 0} {answers : Answering S} {service : S × S} {input : Known × Known} {o p q : Known} {output : Output} where
   -- the session ends with the input, and something more may be said
@@ -200,12 +201,12 @@ module _ {S : Type 0} {answers : Answering S} {service : S × S} {input : Known 
       → Ended rest p q r → Session answers service input (o, q) r
   session_ended r [] so end ended =
       let nothing : Appends p q [] = Appends-kept p p q [] (Appends-nil p) ended.1 in
-      rw ended.0 (session_last so [] refl (Ok tt) nothing (λ text wrote. ((refl, end), wrote)))
+      rw ended.0 (session_last so [] refl (Ok tt) nothing (λ text wrote. (whole end, wrote)))
   session_ended (Ok v) (b ∷ rest) so end ended =
-      session_last so (Bad ∷ []) refl (Ok v) (rw append-nil ended) (λ text wrote. (inr (cut_end so (omega arith) end), wrote))
+      session_last so (Bad ∷ []) refl (Ok v) (rw append-nil ended) (λ text wrote. (cut_end so (omega arith) end, wrote))
   session_ended (Err e) (b ∷ rest) so end ended =
-      let cut = cut_end so (omega arith) end in
-      rw ended.0 (session_last so (Bad ∷ []) refl (Err fault.Write) (rw append-nil ended.1) (λ text wrote. (inr (inr cut), wrote)))
+      let bad = cut_end so (omega arith) end in
+      rw ended.0 (session_last so (Bad ∷ []) refl (Err fault.Write) (rw append-nil ended.1) (λ text wrote. (inr bad, wrote)))
 
 pub session_end : {S : Type 0} {answers : Answering S} {service : S × S} {i j k o p q : Known} {output : Output} {rest now : List ℕ} {n : ℕ}
     {r : Result ⊤ SessionFault} → Through answers service (i, j) (o, p) output rest (Ok true) → ReadSome j k rest now n → n ≡ 0 → Ended now p q r

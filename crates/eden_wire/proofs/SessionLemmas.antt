@@ -7,11 +7,11 @@ use Rattle.eden_model.specs.declared.errno.Errno.TheVariants.{EPROTO}
 use Rattle.eden_model.specs.declared.reply.Reply.{Reply}
 use Rattle.eden_model.specs.declared.fault.CallFault.{CallFault}
 use Rattle.eden_wire.specs.Replies.{error_text}
-use Rattle.eden_wire.specs.Lines.{longest_line, Lines, IsLine, IsOneLine, IsBadEnd, IsLineOf}
-use Rattle.eden_wire.specs.Lines.IsBadEnd.{unreadable, too_long}
+use Rattle.eden_wire.specs.Lines.{longest_line, Lines, IsLine, IsOneLine, IsLineOf}
+use Rattle.eden_wire.specs.Lines.Ends.{unreadable, too_long}
 use Rattle.eden_wire.specs.Writing.{Grows, Flushed, IsIdle}
 use Rattle.eden_wire.specs.Serving.{Answering, Known, texts, Serves}
-use Rattle.eden_wire.specs.Turns.{Turn, Goes, Run, RunLeft, Answered, Left}
+use Rattle.eden_wire.specs.Turns.{Turn, Goes, IsBadEnd, Run, RunLeft, Answered, Left}
 use Rattle.eden_wire.specs.declared.request.Item.{Item}
 use Rattle.eden_wire.specs.declared.request.Item.TheVariants.{Asks, Refuses, Bad}
 use Rattle.eden_wire.specs.declared.output.Output.{Output}
@@ -97,6 +97,9 @@ module _ {S : Type 0} {answers : Answering S} {s t u : S} {w v x : Known} {o p q
         grew = rw (texts-append answers s so.items so.given t others turn.given so.served) (grows_then so.grew turn.grew);
       }
 
+line_ends : (rest cut : List ℕ) → IsBadEnd cut → rest ≡ cut → IsBadEnd rest
+line_ends rest cut bad same = rw same bad
+
 module _ {S : Type 0} {answers : Answering S} {s t u : S} {w v x : Known} {o p q : Output} {bytes after : List ℕ} {used : ℕ} where
   -- a last line was answered, which ends the session
   run_last : (later : Given) → Lined answers (s, t) (w, v) (o, p) bytes used → IsBadEnd (drop used bytes) → Serves answers t (Bad ∷ []) later u
@@ -117,7 +120,7 @@ module _ {S : Type 0} {answers : Answering S} {s t u : S} {w v x : Known} {o p q
       → Turn answers t u v x p q (take len (drop used bytes)) false → Run answers s u w x o q bytes after false
   run_false {len} so found turn =
       let rest = drop used bytes in
-      let bad = rw (← found.split) at (unreadable (take len rest) (drop (len + 1) rest) (rw turn.goes at turn.is_line)) in
+      let bad = line_ends rest _ (λ unread. unreadable (take len rest) (drop (len + 1) rest) (rw turn.goes at turn.is_line)) found.split in
       run_last turn.given so bad (rw turn.goes at turn.served) (rw turn.goes at turn.grew)
 
 module _ {S : Type 0} {answers : Answering S} {s t : S} {w v x : Known} {o p q : Output} {bytes after : List ℕ} {used : ℕ} where
@@ -189,8 +192,8 @@ pub long_line : (bytes : List ℕ) (len : ℕ) → IsLineOf bytes len → longes
 long_line bytes len found long =
     let inside = found.inside in
     let size = length-take-le len bytes (omega arith) in
-    rw (← found.split) at (too_long (take len bytes) (10 ∷ drop (len + 1) bytes) found.one (omega arith))
+    line_ends bytes _ (λ unread. too_long (take len bytes) (10 ∷ drop (len + 1) bytes) found.one (omega arith)) found.split
 
 -- a beginning of a line that is too long
 pub long_rest : (bytes : List ℕ) → IsOneLine bytes → longest_line < length bytes → IsBadEnd bytes
-long_rest bytes one long = rw append-nil at (too_long bytes [] one long)
+long_rest bytes one long = line_ends bytes _ (λ unread. too_long bytes [] one long) (sym (append-nil bytes))

@@ -1,5 +1,5 @@
 -- What the lines of an input are.
-use Rattle.std.specs.Prelude.{ℕ, ◌+◌, take, drop, ◌<◌, ◌≤◌, ◌≡◌, ◌≢◌, List, [], ◌∷◌, ◌++◌, length, Option, Some, None, ◌⊎◌}
+use Rattle.std.specs.Prelude.{ℕ, ◌+◌, take, drop, ◌<◌, ◌≤◌, ◌≡◌, ◌≢◌, List, [], ◌∷◌, ◌++◌, length, Option, Some, None}
 use Rattle.std.specs.List.{AllByRecursion}
 use Rattle.std.specs.Io.KnownBytes.{IsAtEnd}
 use Rattle.eden_model.specs.declared.errno.Errno.{Errno}
@@ -42,36 +42,18 @@ pub record IsLineOf (bytes : List ℕ) (n : ℕ) : Type 0 where
   pub split : bytes ≡ take n bytes ++ 10 ∷ drop (n + 1) bytes
   pub one : IsOneLine (take n bytes)
 
--- the session goes on after it
-abbrev pub GoesOn : Item → Type 0
-GoesOn (Asks q) = Unit {0}
-GoesOn (Refuses e) = Unit {0}
-GoesOn Bad = ⊥
-
 -- a line that is such an item
-pub record IsLine (line : List ℕ) (item : Item) : Type 0 where
-  pub one : IsOneLine line
-  pub short : length line ≤ longest_line
-  pub reads : Reads line item
+abbrev pub IsLine : List ℕ → Item → Type 0
+IsLine line item = IsOneLine line × (length line ≤ longest_line) × Reads line item
 
--- the bytes are lines that are these items, and then the rest
+-- the bytes are lines that are these items, after which the session goes on, and then the rest
 abbrev pub Lines : List ℕ → List Item → List ℕ → Type 0
 Lines bytes [] rest = bytes ≡ rest
-Lines bytes (item ∷ items) rest = (line : List ℕ) × (more : List ℕ) × (bytes ≡ line ++ 10 ∷ more) × IsLine line item × GoesOn item × Lines more items rest
+Lines bytes (item ∷ items) rest = (line : List ℕ) × (more : List ℕ) × (bytes ≡ line ++ 10 ∷ more) × IsLine line item × (item ≢ Bad) × Lines more items rest
 
--- a line that is no request, or one that is too long
-pub data IsBadEnd : List ℕ → Type 0 where
-  unreadable : (line more : List ℕ) → IsLine line Bad → IsBadEnd (line ++ 10 ∷ more)
-  too_long : (line more : List ℕ) → IsOneLine line → longest_line < length line → IsBadEnd (line ++ more)
-
--- a last line that isn't ended
-pub record IsCut (rest : List ℕ) (known : Option (List ℕ)) : Type 0 where
-  pub one : IsOneLine rest
-  pub some : 0 < length rest
-  pub at_end : IsAtEnd known
-
--- the input, of which these known bytes are unread, ends after a line feed or at once, or with a last line that is bad
-abbrev pub Ends : List ℕ → Option (List ℕ) → List Item → Type 0
-Ends rest known [] = (rest ≡ []) × IsAtEnd known
-Ends rest known (Bad ∷ []) = IsBadEnd rest ⊎ IsCut rest known
-Ends rest known items = ⊥
+-- the input, of which these known bytes are unread, ends with nothing more, or with a last line that is bad
+pub data Ends (known : Option (List ℕ)) : List ℕ → List Item → Type 0 where
+  whole : IsAtEnd known → Ends known [] []
+  cut : (line : List ℕ) → IsOneLine line → 0 < length line → IsAtEnd known → Ends known line (Bad ∷ [])
+  unreadable : (line more : List ℕ) → IsLine line Bad → Ends known (line ++ 10 ∷ more) (Bad ∷ [])
+  too_long : (line more : List ℕ) → IsOneLine line → longest_line < length line → Ends known (line ++ more) (Bad ∷ [])

@@ -21,11 +21,10 @@ answered (Err e) = Err e
 
 -- an answer for each request, and the fixed text for each refusal
 abbrev pub texts : List Item → List (Option (Result Reply CallFault)) → List ℕ
-texts [] given = []
-texts (Asks q ∷ items) [] = []
 texts (Asks q ∷ items) (a ∷ given) = answer_text a ++ texts items given
 texts (Refuses e ∷ items) given = error_text e ++ texts items given
 texts (Bad ∷ items) given = error_text EPROTO ++ texts items given
+texts items given = []
 
 -- what a service may answer: its state before, the request, the answer, its state after
 abbrev pub Answering : Type 0 → Type 1
@@ -39,23 +38,20 @@ module _ {S : Type 0} (answers : Answering S) where
   -- each request in order was answered by the service, or for want of memory not asked
   abbrev pub Serves : S → List Item → List (Option (Result Reply CallFault)) → S → Type 0
   Serves s [] [] t = s ≡ t
-  Serves s [] (a ∷ given) t = ⊥
-  Serves s (Asks q ∷ items) [] t = ⊥
   Serves s (Asks q ∷ items) (None ∷ given) t = Serves s items given t
   Serves s (Asks q ∷ items) (Some a ∷ given) t = (u : S) × answers s q a u × Serves u items given t
   Serves s (Refuses e ∷ items) given t = Serves s items given t
   Serves s (Bad ∷ items) given t = Serves s items given t
+  Serves s items given t = ⊥
 
--- how a session ended: with the input's end, or with a bad line; at a failed read after the whole lines that were
--- read; at a failed write with a beginning of the texts; for want of memory before the first read
+-- with all texts written at the input's end, a bad line or a failed read, a beginning at a failed write, or no memory to begin
 abbrev pub Said : Result ⊤ SessionFault → List ℕ → List Item → List ℕ → Known → Known × Known → List ℕ → Type 0
-Said (Ok _) read last rest unread output text = Ends rest unread last × Appends output.0 output.1 text
+Said (Ok _) read last rest unread output text = Ends unread rest last × Appends output.0 output.1 text
 Said (Err fault.Read) read last rest unread output text = (last ≡ []) × IsOneLine rest × Appends output.0 output.1 text
-Said (Err fault.Write) read last rest unread output text = ((last ≡ []) ⊎ Ends rest unread last) × WritesFront output.0 output.1 text
+Said (Err fault.Write) read last rest unread output text = ((last ≡ []) ⊎ Ends unread rest last) × WritesFront output.0 output.1 text
 Said (Err fault.Memory) read last rest unread output text = (read ≡ []) × (last ≡ []) × Keeps output.0 output.1
 
--- a session, with the service, the input and the output before and after it: the bytes that it read are lines, which the
--- service answered, and the texts of the answers were written
+-- the service, the input and the output before and after: lines were read, the service answered them, and the texts were written
 pub record Session {S : Type 0} (answers : Answering S) (service : S × S) (input output : Known × Known) (r : Result ⊤ SessionFault) : Type 0 where
   pub read : List ℕ
   pub items : List Item

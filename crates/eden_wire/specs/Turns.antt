@@ -1,11 +1,11 @@
 -- The steps of a session: one line, the lines of a piece, the end.
-use Rattle.std.specs.Prelude.{ℕ, ◌≡◌, List, [], ◌∷◌, ◌++◌, length, ◌≤◌, Bool, true, false, Option, Result, Ok, Err, MatchResult, OnOk, ⊤, ◌⊎◌}
+use Rattle.std.specs.Prelude.{ℕ, ◌≡◌, ◌≢◌, List, [], ◌∷◌, ◌++◌, length, ◌≤◌, Bool, true, false, Option, Result, Ok, Err, MatchResult, OnOk, ⊤, ◌⊎◌}
 use Rattle.std.specs.Io.KnownBytes.{Appends, Keeps}
 use Rattle.eden_model.specs.declared.errno.Errno.TheVariants.{EPROTO}
 use Rattle.eden_model.specs.declared.reply.Reply.{Reply}
 use Rattle.eden_model.specs.declared.fault.CallFault.{CallFault}
 use Rattle.eden_wire.specs.Replies.{error_text}
-use Rattle.eden_wire.specs.Lines.{longest_line, Lines, IsOneLine, IsLine, IsBadEnd, GoesOn}
+use Rattle.eden_wire.specs.Lines.{longest_line, Lines, IsOneLine, IsLine, Ends}
 use Rattle.eden_wire.specs.Writing.{WritesFront, Writes, Grows, IsIdle}
 use Rattle.eden_wire.specs.Serving.{Answering, Known, texts, Serves}
 use Rattle.eden_wire.specs.declared.request.Item.{Item}
@@ -17,7 +17,7 @@ use Rattle.eden_wire.specs.declared.session_fault.SessionFault.TheVariants as fa
 
 -- whether the session goes on after the item
 abbrev pub Goes : Bool → Item → Type 0
-Goes true item = GoesOn item
+Goes true item = item ≢ Bad
 Goes false item = item ≡ Bad
 
 -- one line was answered
@@ -28,6 +28,10 @@ pub record Turn {S : Type 0} (answers : Answering S) (s t : S) (w v : Known) (o 
   pub goes : Goes on item
   pub served : Serves answers s (item ∷ []) given t
   pub grew : Grows w v o p (texts (item ∷ []) given)
+
+-- the bytes begin with a line that ends the session, whatever is unread
+abbrev pub IsBadEnd : List ℕ → Type 0
+IsBadEnd rest = (unread : Known) → Ends unread rest (Bad ∷ [])
 
 -- what is left of the bytes after the lines that were answered: all whole lines were, if no write has failed
 abbrev pub RunLeft : Bool → Output → List Item → List ℕ → List ℕ → Type 0
