@@ -1,5 +1,5 @@
 -- Files as they are when a checkout is closed.
-use Rattle.std.proofs.Common.{◌≡◌, ◌≢◌, ◌<◌, ℕ, List, Option, Some, None, Result, Ok, Err, OnOk, OnErr, sym, refl, ◌∙◌, ap, subst, inl, inr}
+use Rattle.std.proofs.Common.{◌≡◌, ◌≢◌, ℕ, List, Option, Some, None, Result, Ok, Err, OnOk, OnErr, sym, refl, ◌∙◌, ap, subst, inl, inr}
 use Rattle.std.proofs.lemmas.Option.{same_Some}
 use Rattle.eden_model.specs.declared.id.Id.{Id}
 use Rattle.eden_model.specs.declared.kind.Kind.TheVariants as kind
@@ -24,7 +24,7 @@ use Rattle.eden_overlay.proofs.CallerLemmas.{nothing_at_root}
 use Rattle.eden_tree.specs.Directory.{Child, unloaded, loaded, Row, directory_in, child_of}
 use Rattle.eden_coupling.specs.Chains.{AreSaved}
 use Rattle.eden_coupling.specs.Kept.{IsTable, IsKept}
-use Rattle.eden_coupling.specs.Laws.{TiesSound, NumbersBelow}
+use Rattle.eden_coupling.specs.Laws.{TiesSound}
 use Rattle.eden_coupling.specs.Loose.{the_state}
 use Rattle.eden_coupling.specs.NumberKept.{KeepsNumbers}
 use Rattle.eden_coupling.specs.Numberings.{in_files, numbers}
@@ -34,7 +34,8 @@ use Rattle.eden_coupling.proofs.CallerLemmas.{loose_kept, loose_alike, state_com
 use Rattle.eden_inode.specs.Tables.{fresh_root}
 use Rattle.eden_ops.specs.Changes.{StaysOrBecomesOwn}
 use Rattle.eden_checkout.specs.declared.opening.Opening.TheVariants as opening
-use Rattle.eden_checkout.specs.Opening.{files_show, files_number, FilesBack, FilesKeep, IsRootOf, CanOpen}
+use Rattle.eden_checkout.specs.Opening.{files_show, files_number, FilesKeep, Finds, IsRootOf, CanOpen}
+use Rattle.eden_checkout.proofs.Listed.{root_row, keeps_row, number_is, shown_is}
 use Rattle.eden_checkout.proofs.Opened.{backed_as, none_held}
 
 pub still_root : (id : Id) (a b : Origin) → IsRootOf id a → b ≡ a → IsRootOf id b
@@ -74,46 +75,42 @@ away_shown R F x next table =
 pub saved_shown : (R : Repository) (F : Stored) (x : Row) (next : ℕ) (root : Id) → IsTable x next → IsKept R F x next → IsRootOf root x.origin → ShowsFiles → ShowsAway
     → AreSaved x → files_show R root F ≡ shown_in R F x
 saved_shown R F x next root table kept of files away saved =
-    ap (λ (o : Origin). shown_in R (without F 0) (fresh_root o)) (root_stands root F x.origin (root_file F) refl of kept.ties.rootless kept.ties.rooted)
+    shown_is R root F
+    ∙ ap (λ (o : Origin). shown_in R (without F 0) (fresh_root o)) (root_stands root F x.origin (root_file F) refl of kept.ties.rootless kept.ties.rooted)
     ∙ away R (without F 0) (fresh_root x.origin) refl
     ∙ away_shown R (without F 0) x next table
     ∙ sym (files R (without F 0) x next table (loose_kept R F x next 0 None table kept (the_state refl)) saved)
     ∙ loose_alike R F x next 0 None table kept (the_state refl)
 
 module _ (R : Repository) (F : Stored) (x : Row) (next : ℕ) (root : Id) (table : IsTable x next) (kept : IsKept R F x next) (none : child_of x ≡ None) (of : IsRootOf root x.origin)
-    (sound : TiesSound) (below : NumbersBelow) where
-  root_there : fresh_root (root_from root (root_file F)) ≡ x
+    (sound : TiesSound) where
+  root_there : root_row root F ≡ x
   root_there = ap fresh_root (root_stands root F x.origin (root_file F) refl of kept.ties.rootless kept.ties.rooted) ∙ sym (is_fresh x next table none)
 
   pub shows_on : files_show R root F ≡ shown_in R F x
   shows_on =
-      ap (λ (o : Origin). shown_in R (without F 0) (fresh_root o)) (root_stands root F x.origin (root_file F) refl of kept.ties.rootless kept.ties.rooted)
+      shown_is R root F
+      ∙ ap (λ (o : Origin). shown_in R (without F 0) (fresh_root o)) (root_stands root F x.origin (root_file F) refl of kept.ties.rootless kept.ties.rooted)
       ∙ ap (shown_in R (without F 0)) (sym (is_fresh x next table none))
       ∙ loose_alike R F x next 0 None table kept (the_state refl)
 
   -- the files show the numbers that the table does
   pub files_numbered : (p : Path) → numbers (in_files F) x p ≡ files_number root F p
-  files_numbered p = ap (λ (y : Row). numbers (in_files F) y p) (sym root_there)
+  files_numbered p = ap (λ (y : Row). numbers (in_files F) y p) (sym root_there) ∙ sym (number_is root F p)
 
   module _ (N : Numbers) (backs : Backs N (numbers (in_files F) x) next) (held : HoldsState F (record { root = root; next = next })) where
     next_held : (later : ℕ) → HoldsState F (record { root = root; next = later }) → next ≡ later
     next_held later other = ap (λ (s : State). s.next) (same_Some (record { root = root; next = next }) (record { root = root; next = later }) (sym held ∙ other))
 
-    files_back : FilesBack opening.Closed root F N
-    files_back later (inl none) shown = absurd (none_held F (record { root = root; next = next }) none.0 held)
-    files_back later (inr other) shown =
-        subst (Backs N (files_number root F)) (next_held later other) (backed_as N (numbers (in_files F) x) (files_number root F) next backs (λ p. sym (files_numbered p)))
+    can_keep : KeepsNumbers R F x next → (later : ℕ) → Finds opening.Closed root F later → FilesKeep R (shown_in R F x) N root F later
+    can_keep keeps later (inl none) = absurd (none_held F (record { root = root; next = next }) none.0 held)
+    can_keep keeps later (inr other) =
+        subst (FilesKeep R (shown_in R F x) N root F) (next_held later other) (keeps_row R root F (shown_in R F x) N next (sound F kept.full x next kept.ties) shows_on
+        (backed_as N (numbers (in_files F) x) (files_number root F) next backs (λ p. sym (files_numbered p)))
+        (subst (λ (y : Row). KeepsNumbers R F y next) (sym root_there) keeps))
 
     pub can_open : KeepsNumbers R F x next → CanOpen R (shown_in R F x) N root F
-    can_open keeps = record {
-      sound = sound F kept.full x next kept.ties;
-      shown = shows_on;
-      below = λ s other c e live names.
-          let same : record { root = root; next = next } ≡ s = same_Some (record { root = root; next = next }) s (sym held ∙ other) in
-          subst (λ (t : State). e.number < t.next) same (below F kept.full x next kept.ties c e live names);
-      numbers = λ later other. subst (FilesKeep R root F) (next_held later other) (subst (λ (y : Row). KeepsNumbers R F y next) (sym root_there) keeps);
-      backed = files_back;
-    }
+    can_open keeps = record { kept = λ later found most. can_keep keeps later found }
 
 pub holds_state : (F : Stored) (s : State) → IsGoodState s → HoldsState (with_state F s) s
 holds_state F s good = state_written s good

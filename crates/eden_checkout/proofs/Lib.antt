@@ -1,4 +1,5 @@
 pub mod CallerLemmas
+pub mod Listed
 pub mod Opened
 pub mod Fresh
 pub mod Closed

@@ -2,6 +2,7 @@
 use Rattle.std.proofs.Common.{◌≡◌, ◌≢◌, ◌<◌, ◌≤◌, ◌⊎◌, ℕ, List, Option, Some, None, Result, Ok, Err, IfErr, IsSome, sym, refl, ◌∙◌, ap, subst, inl, inr, arith}
 use Rattle.std.proofs.lemmas.Option.{none-some}
 use Rattle.std.proofs.Math.Path.{fun_ext}
+use Rattle.std.proofs.lemmas.List.Elements.{All-contains, All-from_recursion}
 use Rattle.std.specs.Option.{option_and_then}
 use Rattle.std.specs.Result.{IsErrAnd}
 use Rattle.eden_model.specs.declared.id.Id.{Id}
@@ -17,6 +18,7 @@ use Rattle.eden_model.specs.Trees.{Path, Tree}
 use Rattle.eden_overlay_format.specs.declared.stored_entry.StoredEntry.{StoredEntry}
 use Rattle.eden_overlay_format.specs.declared.header.Identifier.TheVariants as identifier
 use Rattle.eden_overlay_format.specs.declared.state.State.{State}
+use Rattle.eden_overlay_format.specs.Directory.{IsStorable}
 use Rattle.eden_overlay_format.specs.Values.{entries_in, state_in}
 use Rattle.eden_overlay.specs.declared.fault.GetFault.TheVariants as get
 use Rattle.eden_overlay.specs.Getting.{Explains}
@@ -28,19 +30,24 @@ use Rattle.eden_overlay.specs.declared.rescan.RescanFault.TheVariants as rescan
 use Rattle.eden_overlay.specs.Counting.{root_from}
 use Rattle.eden_overlay.specs.Rescanning.{IsRescanFault}
 use Rattle.eden_overlay.specs.Soundness.{Names, IsLive, HoldsKind, AreSound}
-use Rattle.eden_overlay.proofs.CallerLemmas.{put_here, put_apart, names_moved, same_or_apart, numbers_from_two, live_stay, state_stays, accused_unsound, root_same, live_counted}
-use Rattle.eden_tree.specs.Directory.{child_of}
+use Rattle.eden_overlay.proofs.CallerLemmas.{put_here, put_apart, names_moved, same_or_apart, numbers_from_two, live_stay, state_stays, accused_unsound, root_same, held_storable}
+use Rattle.eden_tree.specs.Directory.{Row, Directory, child_of}
 use Rattle.eden_coupling.specs.Chains.{AreSaved}
+use Rattle.eden_coupling.specs.Listings.{Place}
 use Rattle.eden_coupling.specs.NumberKept.{KeepsNumbers}
+use Rattle.eden_coupling.specs.NumberLoads.{NamesAreShown}
 use Rattle.eden_coupling.specs.Numberings.{in_files, numbers}
-use Rattle.eden_coupling.proofs.CallerLemmas.{place_cases, fresh_keeps, found_keeps, state_goes}
+use Rattle.eden_coupling.specs.Shown.{shown_in}
+use Rattle.eden_coupling.specs.Ties.{Fits, Ties}
+use Rattle.eden_coupling.proofs.CallerLemmas.{place_cases, fresh_keeps, state_goes}
 use Rattle.eden_inode.specs.Tables.{CanStart, fresh_root}
 use Rattle.eden_checkout.specs.declared.fault.OpenFault.{OpenFault}
 use Rattle.eden_checkout.specs.declared.fault.OpenFault.TheVariants as opens
 use Rattle.eden_checkout.specs.declared.opening.Opening.{Opening}
 use Rattle.eden_checkout.specs.declared.opening.Opening.TheVariants as opening
 use Rattle.eden_checkout.specs.declared.opening.Start.{Start}
-use Rattle.eden_checkout.specs.Opening.{files_show, files_number, FilesKeep, CanOpen, MayOpen, AreNone, StartsAt, Starts, of_rescan, AreAccused, IsOpenFault, IsRescanRefusal, IsRefusal}
+use Rattle.eden_checkout.specs.Opening.{files_number, FilesKeep, MayOpen, AreNone, Starts, of_rescan, AreAccused, IsOpenFault, IsRescanRefusal, IsRefusal}
+use Rattle.eden_checkout.proofs.Listed.{root_row, RowKeeps, row_keeps, number_is, shown_is}
 
 -- numbers that are shown elsewhere too are backed there
 pub backed_as : (N : Numbers) (S T : Numbering) (next : ℕ) → Backs N S next → ((p : Path) → T p ≡ S p) → Backs N T next
@@ -65,7 +72,7 @@ none_held F s none held = none-some s (sym (ap (option_and_then state_in) (none 
 nothing_saved : (F : Stored) → AreNone F → (k : ℕ) (id : Id) → saved_at F k id ≡ None
 nothing_saved F none k id = ap (option_and_then (numbers_of id)) (none k)
 
-pub none_keep : (R : Repository) (root : Id) (F : Stored) → AreNone F → FilesKeep R root F 2
+pub none_keep : (R : Repository) (root : Id) (F : Stored) → AreNone F → RowKeeps R root F 2
 none_keep R root F none =
     let from : root_from root (root_file F) ≡ origin.Object root = ap (root_from root) (root_same F (λ k. None) (none 1)) in
     subst (λ (o : Origin). KeepsNumbers R F (fresh_root o) 2) (sym from)
@@ -91,61 +98,82 @@ fresh_saved o y d place holds = elim (place_cases (fresh_root o) y place) [
   | inr b ↦ absurd (none-some b.directory b.holds)
 ]
 
-module _ (root : Id) (F : Stored) (sound : AreSound F) (start : Start) (from : start.origin ≡ root_from root (root_file F)) where
-  rooted_by : (root_file F ≡ None) ⊎ HoldsKind F 1 kind.Dir → start.origin ≡ origin.Own → HoldsKind F 1 kind.Dir
-  rooted_by (inl none) own = absurd (unowned root (root_file F) none (sym from ∙ own))
-  rooted_by (inr held) own = held
+-- ---- a table over files, of whose root nothing is loaded
 
-  can_start_below : (R : Repository) → ((c : ℕ) (e : StoredEntry) → IsLive F c → Names F c e → e.number < start.next) → FilesKeep R root F start.next
-      → CanStart R (without F 0) start.origin start.next
-  can_start_below R below keeps = record {
-    rootless = λ other. root_same (without F 0) F (put_apart F 0 1 None (λ is. omega (arith, is))) ∙ own_stands root (root_file F) (λ own. other (from ∙ own));
-    rooted = rooted_by sound.top;
-    sound = state_stays F None sound;
-    below = λ c e live names. below c e ((live_stay F 0 None (state_stray F) c).0 live) (still_named F c e names);
-    numbers = subst (λ (o : Origin). KeepsNumbers R (without F 0) (fresh_root o) start.next) (sym from)
-        (state_goes R F (fresh_root (root_from root (root_file F))) start.next keeps).keeps;
+pub numbered : (F : Stored) (c : ℕ) (e : StoredEntry) → Names F c e → e.number < number_end
+numbered F c e names =
+    (All-contains IsStorable names.entries e (All-from_recursion IsStorable names.entries (held_storable F c names.entries names.held).each) names.there).most
+
+module _ (root : Id) (F : Stored) (sound : AreSound F) where
+  none_loaded : (y : Row) (d : Directory) → Place (root_row root F) y → child_of y ≡ Some d → ⊥
+  none_loaded y d place holds = elim (place_cases (root_row root F) y place) [
+    | inl is ↦ none-some d (sym (ap child_of is) ∙ holds)
+    | inr b ↦ none-some b.directory b.holds
+  ]
+
+  pub row_fits : Fits F (root_row root F) number_end
+  row_fits = record {
+    root = refl;
+    sound = sound;
+    below = λ c e live names. numbered F c e names;
+    is_dir = λ y d place holds. absurd (none_loaded y d place holds);
+    held = λ y d place holds. absurd (none_loaded y d place holds);
   }
 
-module _ (R : Repository) (tree : Tree) (N : Numbers) (root : Id) (F : Stored) where
-  below_by : CanOpen R tree N root F → (next : ℕ) → StartsAt F root next → (c : ℕ) (e : StoredEntry) → IsLive F c → Names F c e → e.number < next
-  below_by can next (inl none) c e live names = absurd (nothing_named F none.0 c e names)
-  below_by can next (inr held) c e live names = can.below (record { root = root; next = next }) held c e live names
+  rooted_from : (root_file F ≡ None) ⊎ HoldsKind F 1 kind.Dir → root_from root (root_file F) ≡ origin.Own → HoldsKind F 1 kind.Dir
+  rooted_from (inl none) own = absurd (unowned root (root_file F) none own)
+  rooted_from (inr held) own = held
 
-  numbers_by : CanOpen R tree N root F → (next : ℕ) → StartsAt F root next → FilesKeep R root F next
-  numbers_by can next (inl none) = subst (FilesKeep R root F) (sym none.1) (none_keep R root F none.0)
-  numbers_by can next (inr held) = can.numbers next held
+  row_tied : Ties F F (root_row root F) number_end
+  row_tied = record {
+    fits = row_fits;
+    stored = λ y d place holds. absurd (none_loaded y d place holds);
+    marked = λ y d place holds. absurd (none_loaded y d place holds);
+    same = λ c e live names own away. inl refl;
+    same_root = λ away. inl refl;
+    rootless = own_stands root (root_file F);
+    rooted = rooted_from sound.top;
+  }
 
-  -- what the files keep of numbers
-  keep_by : (how : Opening) → MayOpen how R tree N root F → (start : Start) → Starts how root F start → start.next ≤ number_end → FilesKeep R root F start.next
-  keep_by opening.Closed can start starts most = numbers_by can start.next starts.next
-  keep_by opening.Rescan may start starts most =
-      found_keeps R F root (fresh_root (root_from root (root_file F))) start.next (record { number = refl; is_dir = refl; away = refl; from = refl })
-      starts.next.1 starts.next.2 most may.1
+  module _ (names_shown : NamesAreShown) where
+    -- each number that is named is shown, and so below the next one
+    names_below : (R : Repository) (next : ℕ) → RowKeeps R root F next → (c : ℕ) (e : StoredEntry) → IsLive F c → Names F c e → e.number < next
+    names_below R next keeps c e live names =
+        let at = names_shown F F (saved_at F) (root_row root F) number_end refl row_tied c e live names in keeps.shown.below at.0 e.number at.1
 
-  pub can_start : (how : Opening) → MayOpen how R tree N root F → (start : Start) → Starts how root F start → start.next ≤ number_end
-      → CanStart R (without F 0) start.origin start.next
-  can_start opening.Closed can start starts most =
-      can_start_below root F can.sound start starts.origin R (below_by can start.next starts.next) (numbers_by can start.next starts.next)
-  can_start opening.Rescan may start starts most =
-      can_start_below root F starts.next.0 start starts.origin R (λ c e live names. starts.next.2.below (live_counted F root c e live names))
-      (keep_by opening.Rescan may start starts most)
+    row_starts : (R : Repository) (start : Start) → start.origin ≡ root_from root (root_file F) → RowKeeps R root F start.next → CanStart R (without F 0) start.origin start.next
+    row_starts R start from keeps = record {
+      rootless = λ other. root_same (without F 0) F (put_apart F 0 1 None (λ is. omega (arith, is))) ∙ own_stands root (root_file F) (λ own. other (from ∙ own));
+      rooted = λ own. rooted_from sound.top (sym from ∙ own);
+      sound = state_stays F None sound;
+      below = λ c e live names. names_below R start.next keeps c e ((live_stay F 0 None (state_stray F) c).0 live) (still_named F c e names);
+      numbers = subst (λ (o : Origin). KeepsNumbers R (without F 0) (fresh_root o) start.next) (sym from) (state_goes R F (root_row root F) start.next keeps).keeps;
+    }
 
-  -- the state's file shows none
-  pub number_by : (how : Opening) → MayOpen how R tree N root F → (start : Start) → Starts how root F start → start.next ≤ number_end → (p : Path)
-      → numbers (in_files (without F 0)) (fresh_root start.origin) p ≡ files_number root F p
-  number_by how may start starts most p =
+module _ (R : Repository) (tree : Tree) (N : Numbers) (root : Id) (F : Stored) (how : Opening) (may : MayOpen how R tree N root F)
+    (start : Start) (starts : Starts how root F start) (most : start.next ≤ number_end) where
+  kept : FilesKeep R tree N root F start.next
+  kept = may.kept start.next starts.next most
+
+  kept_row : RowKeeps R root F start.next
+  kept_row = row_keeps R root F tree N start.next kept
+
+  pub can_start : NamesAreShown → CanStart R (without F 0) start.origin start.next
+  can_start names_shown = row_starts root F kept.sound names_shown R start starts.origin kept_row
+
+  -- the state's file shows no number
+  pub number_by : (p : Path) → numbers (in_files (without F 0)) (fresh_root start.origin) p ≡ files_number root F p
+  number_by p =
       ap (λ (o : Origin). numbers (in_files (without F 0)) (fresh_root o) p) starts.origin
-      ∙ (state_goes R F (fresh_root (root_from root (root_file F))) start.next (keep_by how may start starts most)).same p
+      ∙ (state_goes R F (root_row root F) start.next kept_row).same p
+      ∙ sym (number_is root F p)
 
   -- what is opened with is backed by them
-  pub backed_by : (how : Opening) → MayOpen how R tree N root F → (start : Start) → Starts how root F start → start.next ≤ number_end → Backs N (files_number root F) start.next
-  backed_by opening.Closed can start starts most = can.backed start.next starts.next (keep_by opening.Closed can start starts most).shown
-  backed_by opening.Rescan may start starts most = may.2 start.next starts.next (keep_by opening.Rescan may start starts most).shown
+  pub backed_by : Backs N (files_number root F) start.next
+  backed_by = kept.backed
 
-  pub shown_by : (how : Opening) → MayOpen how R tree N root F → files_show R root F ≡ tree
-  shown_by opening.Closed can = can.shown
-  shown_by opening.Rescan may = may.0
+  pub shown_by : shown_in R (without F 0) (fresh_root start.origin) ≡ tree
+  shown_by = ap (λ (o : Origin). shown_in R (without F 0) (fresh_root o)) starts.origin ∙ sym (shown_is R root F) ∙ kept.shown
 
 -- whoever accuses the files shows that they aren't sound
 pub rescan_refused : (honest : Type 0) (root : Id) (F : Stored) (old new : ℕ) (fault : RescanFault) → IsRescanFault honest F root old new fault

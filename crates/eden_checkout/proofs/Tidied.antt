@@ -1,81 +1,61 @@
 -- Files without orphans show the same.
-use Rattle.std.proofs.Common.{◌≡◌, ◌≢◌, ◌<◌, ℕ, true, false, Option, Some, None, List, [], All, Contains, sym, refl, ◌∙◌, ap, subst, inl, inr, arith}
+use Rattle.std.proofs.Common.{◌≡◌, ◌≢◌, ◌≤◌, ℕ, true, false, Option, Some, None, List, [], All, Contains, sym, refl, ◌∙◌, ap, subst, inl, inr, arith}
 use Rattle.std.specs.Option.{IsSome, option_and_then}
 use Rattle.std.proofs.lemmas.Option.{same_Some, none-some}
 use Rattle.std.proofs.Math.Path.{fun_ext}
 use Rattle.std.proofs.lemmas.List.Elements.{All-contains, All-from_recursion}
 use Rattle.eden_model.specs.declared.id.Id.{Id}
-use Rattle.eden_model.specs.Backing.{AreShown, Backs as Backed}
 use Rattle.eden_model.specs.Limits.{number_end}
 use Rattle.eden_model.specs.Numbers.{Numbers}
 use Rattle.eden_model.specs.Repository.{Repository}
 use Rattle.eden_model.specs.Trees.{Path, Tree}
 use Rattle.eden_overlay_format.specs.declared.state.State.{State}
 use Rattle.eden_overlay_format.specs.declared.stored_entry.StoredEntry.{StoredEntry}
-use Rattle.eden_overlay_format.specs.Directory.{IsStorable}
 use Rattle.eden_overlay_format.specs.Values.{state_in}
 use Rattle.eden_overlay.specs.Counting.{root_from}
 use Rattle.eden_overlay.specs.Files.{Stored, ListsNumbers}
-use Rattle.eden_overlay.specs.Held.{HoldsState, without, root_file}
+use Rattle.eden_overlay.specs.Held.{HoldsState, without}
 use Rattle.eden_overlay.specs.Soundness.{Names, AreSound}
 use Rattle.eden_overlay.specs.Tidying.{IsOrphan, IsTidiedInPart, ListsOrphans, OthersStay}
-use Rattle.eden_overlay.proofs.CallerLemmas.{put_apart, held_storable, numbers_from_two, root_stays, named_stays, live_before, named_before, still_sound, root_same}
-use Rattle.eden_tree.specs.Directory.{Row, Directory, child_of}
-use Rattle.eden_coupling.specs.Listings.{Place, top}
-use Rattle.eden_coupling.specs.NumberKept.{KeepsNumbers}
+use Rattle.eden_overlay.proofs.CallerLemmas.{put_apart, numbers_from_two, root_stays, named_stays, still_sound, root_same}
+use Rattle.eden_tree.specs.Directory.{Row}
+use Rattle.eden_coupling.specs.Listings.{top}
+use Rattle.eden_coupling.specs.NumberKept.{KeepsNumbers, SameNumbers}
 use Rattle.eden_coupling.specs.Numberings.{in_files, numbers}
 use Rattle.eden_coupling.specs.Shown.{shown_in}
-use Rattle.eden_coupling.specs.Ties.{Fits}
-use Rattle.eden_coupling.proofs.CallerLemmas.{Backs, backed_alike, place_cases, orphans_go}
+use Rattle.eden_coupling.proofs.CallerLemmas.{Backs, backed_alike, orphans_go}
 use Rattle.eden_inode.specs.Tables.{fresh_root}
 use Rattle.eden_checkout.specs.declared.opening.Opening.TheVariants as opening
-use Rattle.eden_checkout.specs.Opening.{AreNone, CanOpen, files_number, files_show, FilesBack, FilesKeep}
+use Rattle.eden_checkout.specs.Opening.{AreNone, CanOpen, Finds, files_number, files_show, FilesKeep}
 use Rattle.eden_checkout.specs.Tidying.{AreTidied, LackOrphans, IsClosed, IsClosedOver, ShowsSame, StaysClosed}
-use Rattle.eden_checkout.proofs.Opened.{backed_as, none_held}
+use Rattle.eden_checkout.proofs.Listed.{root_row, RowKeeps, row_keeps, keeps_row, number_is, shown_is}
+use Rattle.eden_checkout.proofs.Opened.{backed_as, none_held, row_fits}
 
 module _ (F : Stored) (over : Id) (G : Stored) (sound : AreSound F) (stay : OthersStay F over G) where
-  numbered : (c : ℕ) (e : StoredEntry) → Names F c e → e.number < number_end
-  numbered c e names =
-      (All-contains IsStorable names.entries e (All-from_recursion IsStorable names.entries (held_storable F c names.entries names.held).each) names.there).most
-
   no_state : (c : ℕ) (e : StoredEntry) → Names F c e → 0 ≢ e.number
   no_state c e names is = let least = numbers_from_two F c e names in omega (arith, is, least)
 
   module _ (R : Repository) (root : Id) where
-    -- nothing is loaded
-    none_loaded : (y : Row) (d : Directory) → Place (fresh_root (root_from root (root_file F))) y → child_of y ≡ Some d → ⊥
-    none_loaded y d place holds = elim (place_cases (fresh_root (root_from root (root_file F))) y place) [
-      | inl is ↦ none-some d (sym (ap child_of is) ∙ holds)
-      | inr b ↦ none-some b.directory b.holds
-    ]
-
-    fits : Fits F (fresh_root (root_from root (root_file F))) number_end
-    fits = record {
-      root = refl;
-      sound = sound;
-      below = λ c e live names. numbered c e names;
-      is_dir = λ y d place holds. absurd (none_loaded y d place holds);
-      held = λ y d place holds. absurd (none_loaded y d place holds);
-    }
-
-    before : Backs (without F 0) F (fresh_root (root_from root (root_file F))) number_end
+    before : Backs (without F 0) F (root_row root F) number_end
     before = record {
-      fits = fits;
+      fits = row_fits root F sound;
       same = λ c e live names own away. inl (put_apart F 0 e.number None (no_state c e names));
       same_root = λ none. inl (put_apart F 0 1 None (λ is. omega (arith, is)));
     }
 
-    after : Backs (without G 0) F (fresh_root (root_from root (root_file F))) number_end
+    after : Backs (without G 0) F (root_row root F) number_end
     after = record {
-      fits = fits;
+      fits = row_fits root F sound;
       same = λ c e live names own away. inl (put_apart G 0 e.number None (no_state c e names) ∙ named_stays F over G stay c e live names);
       same_root = λ none. inl (put_apart G 0 1 None (λ is. omega (arith, is)) ∙ root_stays F over G stay);
     }
 
     shows_same : files_show R root G ≡ files_show R root F
     shows_same =
-        ap (λ (f : Option (List ℕ)). shown_in R (without G 0) (fresh_root (root_from root f))) (root_same G F (root_stays F over G stay))
-        ∙ backed_alike R (without F 0) (without G 0) F (fresh_root (root_from root (root_file F))) number_end before after (fresh_root (root_from root (root_file F))) top
+        shown_is R root G
+        ∙ ap (λ (f : Option (List ℕ)). shown_in R (without G 0) (fresh_root (root_from root f))) (root_same G F (root_stays F over G stay))
+        ∙ backed_alike R (without F 0) (without G 0) F (root_row root F) number_end before after (root_row root F) top
+        ∙ sym (shown_is R root F)
 
   pub same_shown : ShowsSame F G
   same_shown R root = shows_same R root
@@ -85,21 +65,20 @@ module _ (F : Stored) (over : Id) (G : Stored) (sound : AreSound F) (stay : Othe
   held_before s held = ap (option_and_then state_in) (sym (stay 0 (λ orphan. let least = orphan.least in absurd (omega (arith, least))))) ∙ held
 
   -- .. and over its tree, what files show of numbers
-  numbers_kept : (R : Repository) (root : Id) (next : ℕ) → LackOrphans F G → HoldsState F (record { root = root; next = next }) → FilesKeep R root F next → FilesKeep R root G next
-  numbers_kept R root next lack held keeps =
-      let x = fresh_root (root_from root (root_file F)) in
-      subst (λ (o : Option (List ℕ)). KeepsNumbers R G (fresh_root (root_from root o)) next) (sym (root_same G F (root_stays F over G stay)))
-      (orphans_go R F G root x next (record { number = refl; is_dir = refl; away = refl; from = refl })
-      (lack root (inr (record { root = root; next = next }, (held, refl)))) keeps).keeps
+  module _ (R : Repository) (root : Id) (next : ℕ) (lack : LackOrphans F G) (held : HoldsState F (record { root = root; next = next })) (keeps : RowKeeps R root F next) where
+    over_root : root_row root G ≡ root_row root F
+    over_root = ap (λ (o : Option (List ℕ)). fresh_root (root_from root o)) (root_same G F (root_stays F over G stay))
 
-  -- .. which show the same numbers
-  numbered_same : (R : Repository) (root : Id) (next : ℕ) → LackOrphans F G → HoldsState F (record { root = root; next = next }) → FilesKeep R root F next
-      → (p : Path) → files_number root G p ≡ files_number root F p
-  numbered_same R root next lack held keeps p =
-      let x = fresh_root (root_from root (root_file F)) in
-      ap (λ (o : Option (List ℕ)). numbers (in_files G) (fresh_root (root_from root o)) p) (root_same G F (root_stays F over G stay))
-      ∙ (orphans_go R F G root x next (record { number = refl; is_dir = refl; away = refl; from = refl })
-      (lack root (inr (record { root = root; next = next }, (held, refl)))) keeps).same p
+    goes : SameNumbers R F (root_row root F) G (root_row root F) next
+    goes = orphans_go R F G root (root_row root F) next (record { number = refl; is_dir = refl; away = refl; from = refl })
+        (lack root (inr (record { root = root; next = next }, (held, refl)))) keeps
+
+    numbers_kept : RowKeeps R root G next
+    numbers_kept = subst (λ (x : Row). KeepsNumbers R G x next) (sym over_root) goes.keeps
+
+    -- .. which show the same numbers
+    numbered_same : (p : Path) → files_number root G p ≡ files_number root F p
+    numbered_same p = number_is root G p ∙ ap (λ (x : Row). numbers (in_files G) x p) over_root ∙ goes.same p ∙ sym (number_is root F p)
 
   -- where no files are left there were none
   none_before : IsClosed F → AreNone G → G ≡ F
@@ -109,25 +88,20 @@ module _ (F : Stored) (over : Id) (G : Stored) (sound : AreSound F) (stay : Othe
     state_stays_there = stay 0 (λ orphan. let least = orphan.least in absurd (omega (arith, least)))
 
   module _ (lack : LackOrphans F G) (closed : IsClosed F) (R : Repository) (tree : Tree) (N : Numbers) (root : Id) (can : CanOpen R tree N root F) where
-    still_backed : FilesBack opening.Closed root G N
-    still_backed next (inl (none, first)) shown =
-        let same = none_before closed none in
-        subst (λ (H : Stored). Backed N (files_number root H) next) (sym same)
-        (can.backed next (inl (subst AreNone same none, first)) (subst (λ (H : Stored). AreShown (files_number root H) next) same shown))
-    still_backed next (inr held) shown =
+    still_kept : (next : ℕ) → Finds opening.Closed root G next → next ≤ number_end → FilesKeep R tree N root G next
+    still_kept next (inl at) most =
+        let same = none_before closed at.0 in
+        subst (λ (H : Stored). FilesKeep R tree N root H next) (sym same) (can.kept next (inl (subst AreNone same at.0, at.1)) most)
+    still_kept next (inr held) most =
         let before = held_before (record { root = root; next = next }) held in
-        let keeps = can.numbers next before in
-        backed_as N (files_number root F) (files_number root G) next (can.backed next (inr before) keeps.shown) (numbered_same R root next lack before keeps)
+        let keep = can.kept next (inr before) most in
+        let row = row_keeps R root F tree N next keep in
+        keeps_row R root G tree N next (still_sound F over G stay sound) (shows_same R root ∙ keep.shown)
+        (backed_as N (files_number root F) (files_number root G) next keep.backed (numbered_same R root next lack before row))
+        (numbers_kept R root next lack before row)
 
   pub stays_closed : LackOrphans F G → IsClosed F → StaysClosed F G
-  stays_closed lack closed R tree N root can = record {
-    sound = still_sound F over G stay sound;
-    shown = shows_same R root ∙ can.shown;
-    below = λ s held c e live names. can.below s (held_before s held) c e (live_before F over G stay c live) (named_before F over G stay c e live names);
-    numbers = λ next held.
-        let before = held_before (record { root = root; next = next }) held in numbers_kept R root next lack before (can.numbers next before);
-    backed = still_backed lack closed R tree N root can;
-  }
+  stays_closed lack closed R tree N root can = record { kept = still_kept lack closed R tree N root can }
 
 -- files that are as they were
 pub unchanged_shown : (F G : Stored) → G ≡ F → ShowsSame F G

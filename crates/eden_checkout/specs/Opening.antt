@@ -1,12 +1,17 @@
 -- Files that a checkout is opened over, and why it isn't.
-use Rattle.std.specs.Prelude.{◌≡◌, ◌≢◌, ◌<◌, ◌⊎◌, ℕ, None, IsSome}
+use Rattle.std.specs.Prelude.{◌≡◌, ◌≢◌, ◌≤◌, ◌⊎◌, ℕ, List, [], ◌∷◌, Option, Some, None, IsSome}
+use Rattle.std.specs.Option.{option_and_then, option_map}
 use Rattle.eden_model.specs.declared.id.Id.{Id}
+use Rattle.eden_model.specs.declared.kind.Kind.TheVariants as kind
 use Rattle.eden_model.specs.declared.kind.Origin.{Origin}
 use Rattle.eden_model.specs.declared.kind.Origin.TheVariants as origin
 use Rattle.eden_model.specs.Failures.{Rose}
-use Rattle.eden_model.specs.Backing.{AreShown, Backs}
+use Rattle.eden_model.specs.Backing.{Backs}
+use Rattle.eden_model.specs.Limits.{number_end}
+use Rattle.eden_model.specs.Named.{named}
 use Rattle.eden_model.specs.Numbers.{Numbering, Numbers}
-use Rattle.eden_model.specs.Repository.{Repository}
+use Rattle.eden_model.specs.Repository.{Repository, source_of, entries_with, ground_with}
+use Rattle.eden_model.specs.Shown.{if_dir, shown}
 use Rattle.eden_model.specs.Trees.{Path, Tree}
 use Rattle.eden_overlay_format.specs.declared.header.Identifier.TheVariants as identifier
 use Rattle.eden_overlay_format.specs.declared.state.State.{State}
@@ -18,17 +23,13 @@ use Rattle.eden_overlay.specs.declared.files.FilesFault.{FilesFault}
 use Rattle.eden_overlay.specs.declared.files.FilesFault.TheVariants as files
 use Rattle.eden_overlay.specs.Files.{Stored}
 use Rattle.eden_overlay.specs.Getting.{Explains}
-use Rattle.eden_overlay.specs.Held.{HoldsState, without, root_file}
+use Rattle.eden_overlay.specs.Held.{HoldsState, root_file, saved_at, item_of, items_of, own_files}
 use Rattle.eden_overlay.specs.declared.rescan.RescanFault.{RescanFault}
 use Rattle.eden_overlay.specs.declared.rescan.RescanFault.TheVariants as rescan
-use Rattle.eden_overlay.specs.Counting.{root_from, NumbersAreSound}
+use Rattle.eden_overlay.specs.Counting.{root_from, listing_at, NumbersAreSound}
 use Rattle.eden_overlay.specs.Rescanning.{IsNextOf, Accuses, CanRescan}
-use Rattle.eden_overlay.specs.Soundness.{IsLive, Names, AreSound}
-use Rattle.eden_coupling.specs.NumberKept.{KeepsNumbers}
-use Rattle.eden_coupling.specs.NumberNodes.{ListTrees}
-use Rattle.eden_coupling.specs.Numberings.{in_files, numbers}
-use Rattle.eden_coupling.specs.Shown.{shown_in}
-use Rattle.eden_inode.specs.Tables.{Table, fresh_root, shows_numbers}
+use Rattle.eden_overlay.specs.Soundness.{AreSound}
+use Rattle.eden_inode.specs.Tables.{Table, shows_numbers}
 use Rattle.eden_checkout.specs.declared.fault.OpenFault.{OpenFault}
 use Rattle.eden_checkout.specs.declared.fault.OpenFault.TheVariants as opens
 use Rattle.eden_checkout.specs.declared.opening.Opening.{Opening}
@@ -37,21 +38,23 @@ use Rattle.eden_checkout.specs.declared.opening.Start.{Start}
 
 -- ---- what files show
 
--- the tree that files show above a commit's, file 0 passed over
+-- the root, as a directory would list it
+abbrev pub root_entry : Id → Stored → StoredEntry
+root_entry root F = record { name = []; kind = kind.Dir; origin = root_from root (root_file F); number = 1 }
+
+-- the tree that files show above a commit's
 abbrev pub files_show : Repository → Id → Stored → Tree
-files_show R root F = shown_in R (without F 0) (fresh_root (root_from root (root_file F)))
+files_show R root F = shown (ground_with R (own_files F)) (item_of (root_entry root F))
 
--- the inode numbers that they show above it
+-- the entry at a path from an entry on, as far as files list directories
+abbrev pub listed_at : Stored → StoredEntry → Path → Option StoredEntry
+listed_at F e [] = Some e
+listed_at F e (n ∷ p) =
+    option_and_then (λ es. option_and_then (λ c. listed_at F c p) (named (λ (c : StoredEntry). c.name) n es)) (if_dir e.kind (listing_at F e.number e.origin))
+
+-- the inode numbers that files show above the commit's tree
 abbrev pub files_number : Id → Stored → Numbering
-files_number root F = numbers (in_files F) (fresh_root (root_from root (root_file F)))
-
--- .. and what they keep of these, with that next one
-abbrev pub FilesKeep : Repository → Id → Stored → ℕ → Type 0
-FilesKeep R root F next = KeepsNumbers R F (fresh_root (root_from root (root_file F))) next
-
--- what is saved of numbers lists the entries of the commit's trees
-abbrev pub ListFiles : Repository → Id → Stored → Type 0
-ListFiles R root F = ListTrees R (in_files F) (fresh_root (root_from root (root_file F)))
+files_number root F = λ p. option_map (λ (e : StoredEntry). e.number) (listed_at F (root_entry root F) p)
 
 -- ---- what is found
 
@@ -62,39 +65,35 @@ IsRootOf root o = (o ≡ origin.Object root) ⊎ (o ≡ origin.Own)
 abbrev pub AreNone : Stored → Type 0
 AreNone F = (k : ℕ) → F k ≡ None
 
--- the next number is that of the state, or where nothing is stored the first
-abbrev pub StartsAt : Stored → Id → ℕ → Type 0
-StartsAt F root next = (AreNone F × (next ≡ 2)) ⊎ HoldsState F (record { root = root; next = next })
-
--- what is found in files that are opened: the next number, and by a rescan that they are sound, and the numbers in them
+-- What is found in files that are opened: the next number, which is that of the state, or where nothing is stored the first; and
+-- by a rescan that they are sound, and the numbers in them.
 abbrev pub Finds : Opening → Id → Stored → ℕ → Type 0
-Finds opening.Closed root F next = StartsAt F root next
+Finds opening.Closed root F next = (AreNone F × (next ≡ 2)) ⊎ HoldsState F (record { root = root; next = next })
 Finds opening.Rescan root F next = AreSound F × NumbersAreSound F root × IsNextOf F root next
 
 -- ---- when they may be opened
 
--- The numbers N are backed by those that files show: N may be these, with all below the next one spent, or what a history left
--- whose mount was closed to the files.
-abbrev pub FilesBack : Opening → Id → Stored → Numbers → Type 0
-FilesBack how root F N = (next : ℕ) → Finds how root F next → AreShown (files_number root F) next → Backs N (files_number root F) next
-
--- What is known of the files where the outside is honest: no name dangles, they show the tree and back the numbers N, and where
--- they were closed each number that is named is below the next one, and none is shown twice.
-pub record CanOpen (R : Repository) (tree : Tree) (N : Numbers) (root : Id) (F : Stored) : Type 0 where
+-- What files keep where that number is given next: no name dangles, they show the tree, and their numbers back the numbers N. None
+-- is saved for a directory whose number is yet to be given, and what they list of a directory is what it has.
+pub record FilesKeep (R : Repository) (tree : Tree) (N : Numbers) (root : Id) (F : Stored) (next : ℕ) : Type 0 where
   pub sound : AreSound F
   pub shown : files_show R root F ≡ tree
-  pub below : (s : State) → HoldsState F s → (c : ℕ) (e : StoredEntry) → IsLive F c → Names F c e → e.number < s.next
-  pub numbers : (next : ℕ) → HoldsState F (record { root = root; next = next }) → FilesKeep R root F next
-  pub backed : FilesBack opening.Closed root F N
+  pub backed : Backs N (files_number root F) next
+  pub blank : (k : ℕ) (id : Id) → next ≤ k → saved_at F k id ≡ None
+  pub listed : (p : Path) (e : StoredEntry) (es : List StoredEntry) → listed_at F (root_entry root F) p ≡ Some e → listing_at F e.number e.origin ≡ Some es
+      → entries_with R (own_files F) (source_of e.number e.origin) ≡ Some (items_of es)
+
+-- what is known of the files where the outside is honest: they keep that, with the next number that is found in them
+pub record MayOpen (how : Opening) (R : Repository) (tree : Tree) (N : Numbers) (root : Id) (F : Stored) : Type 0 where
+  pub kept : (next : ℕ) → Finds how root F next → next ≤ number_end → FilesKeep R tree N root F next
+
+-- .. where they were closed
+abbrev pub CanOpen : Repository → Tree → Numbers → Id → Stored → Type 0
+CanOpen R tree N root F = MayOpen opening.Closed R tree N root F
 
 -- a table shows the numbers that files do above that commit's tree
 abbrev pub ShowsNumbersOf : {W F : Type 0} → Files F W → Id → Stored → Table F → Type 0
 ShowsNumbersOf f root F t = (p : Path) → shows_numbers f t p ≡ files_number root F p
-
--- a rescan finds itself whether they are sound
-abbrev pub MayOpen : Opening → Repository → Tree → Numbers → Id → Stored → Type 0
-MayOpen opening.Closed R tree N root F = CanOpen R tree N root F
-MayOpen opening.Rescan R tree N root F = (files_show R root F ≡ tree) × ListFiles R root F × FilesBack opening.Rescan root F N
 
 -- ---- what is opened
 

@@ -10,15 +10,14 @@ ghost use Rattle.eden_overlay.specs.Counting.{NumbersAreSound};
 ghost use Rattle.eden_overlay.specs.Rescanning.{IsNextOf};
 ghost use Rattle.eden_overlay.specs.Soundness.{AreSound};
 ghost use Rattle.eden_checkout.specs.declared.opening.Opening.TheVariants as opening;
-ghost use Rattle.eden_checkout.specs.Opening.{CanOpen, MayOpen, StartsAt, Finds, files_show, ListFiles, ShowsNumbersOf};
-ghost use Rattle.eden_checkout.specs.Opening.{FilesBack};
+ghost use Rattle.eden_checkout.specs.Opening.{CanOpen, MayOpen, Finds, files_show, ShowsNumbersOf};
 ghost use Rattle.eden_checkout.specs.Opening.{IsOpenFault, IsRescanRefusal, IsRefusal};
 
 use crate::closing::{as_files, store_state};
 use crate::fault::OpenFault;
 use crate::opening::{Opening, Start, begin};
 use eden_cache::{ObjectCache, Stock};
-use eden_coupling::{shown_laws, tie_laws};
+use eden_coupling::{numbering_laws, shown_laws, tie_laws};
 use eden_inode::Inodes;
 use eden_model::{Id, World};
 use eden_ops::{Place, let_go};
@@ -75,7 +74,7 @@ impl<A: Allocator + Clone, W: World, F: Files<W>> Checkout<A, W, F> {
         ensures backed { W.honest
             → IfOk result (λ c. Backs W.numbers (shows_numbers F.Files c.inodes) c.inodes.next) }
         ensures stored { W.honest → IfOk result (λ c. F.stored c.inodes.files ≡ without (F.stored files) 0) }
-        ensures next { W.honest → IfOk result (λ c. StartsAt (F.stored files) root c.inodes.next) }
+        ensures next { W.honest → IfOk result (λ c. Finds opening.Closed root (F.stored files) c.inodes.next) }
         ensures fresh { IfOk result
             (λ c. (c.inodes.clock ≡ 0) × ((c.inodes.changes ≡ 0) × ((c.cache ≡ cache) × (c.root ≡ root)))) }
         ensures saved { IfOk result (λ c. AreSaved c.inodes.root) }
@@ -100,9 +99,8 @@ impl<A: Allocator + Clone, W: World, F: Files<W>> Checkout<A, W, F> {
         root: Id,
         cache: ObjectCache<A>,
     ) -> Result<Self, (OpenFault, F)>
-        requires files { W.honest → files_show W.repository root (F.stored files) ≡ W.opening }
-        requires trees { W.honest → ListFiles W.repository root (F.stored files) }
-        requires backed { W.honest → FilesBack opening.Rescan root (F.stored files) W.numbers }
+        requires files { W.honest
+            → MayOpen opening.Rescan W.repository W.opening W.numbers root (F.stored files) }
         requires cache { (cache.objects ≡ []) × (cache.sizes ≡ []) }
         ensures sound { W.honest → OnOk result (AreSound (F.stored files)) }
         ensures shown { W.honest → IfOk result (λ c. shows W.World F.Files c.inodes ≡ W.opening) }
@@ -148,6 +146,7 @@ impl<A: Allocator + Clone, W: World, F: Files<W>> Checkout<A, W, F> {
             (λ e. IsRefusal opening W.honest root (F.stored files) (F.failures files) (F.failures e.1) e.0) }
         ensures unchanged { W.honest → IfErr result (λ e. F.stored e.1 ≡ F.stored files) }
     {
+        numbering_laws();
         let mut overlay = Overlay::new(alloc, files).keeping(cache.most_bytes());
         match begin(alloc, &mut overlay, root, opening) {
             Err(fault) => Err((fault, overlay.into_files())),

@@ -1,6 +1,5 @@
 ghost use Rattle.eden_checkout.specs.Laws.{OpensFresh, OpensAsShown};
 
-use eden_coupling::shown_laws;
 use eden_model::backing_laws;
 use eden_overlay::overlay_laws;
 
@@ -11,6 +10,5 @@ pub fn opening_laws()
     ensures as_shown { OpensAsShown }
 {
     overlay_laws();
-    shown_laws();
     backing_laws();
 }

@@ -3,6 +3,6 @@ use Rattle.eden_checkout.proofs.laws.opening_laws.Goals as goal
 
 pub returns : goal.returns
 returns c = record {
-  fresh = opens_fresh c.overlay_laws.ensures.rootless c.shown_laws.ensures.away c.backing_laws.ensures.opening_is_backed;
+  fresh = opens_fresh c.overlay_laws.ensures.rootless c.backing_laws.ensures.opening_is_backed;
   as_shown = opens_as_shown c.backing_laws.ensures.opening_is_backed;
 }

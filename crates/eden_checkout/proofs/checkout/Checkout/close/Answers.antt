@@ -49,7 +49,7 @@ returns-clause-opens g c N h backs =
     (backed_as N (shows_numbers g.F.Files c.args.self.inodes) (shows_numbers g.F.Files t) c.args.self.inodes.next backs
     (λ p. c.store_state.ensures.numbers h p ∙ c.let_go.ensures.numbers h p ∙ ap (λ (s : Checkout _). shows_numbers g.F.Files s.inodes p) c.self.view_is)) in
     let opens : CanOpen g.W.World.repository (shown_in g.W.World.repository F x) N root F =
-    can_open g.W.World.repository F x t.next root c.holds.ensures.table (c.holds.ensures.kept h) none of c.tie_laws.ensures.sound c.tie_laws.ensures.numbers_below
+    can_open g.W.World.repository F x t.next root c.holds.ensures.table (c.holds.ensures.kept h) none of c.tie_laws.ensures.sound
     N backed held (c.holds.ensures.numbers h) in
     let same : shown_in g.W.World.repository F x ≡ shows g.W.World g.F.Files c.args.self.inodes =
     c.store_state.ensures.same h ∙ c.let_go.ensures.same h ∙ ap (λ (s : Checkout _). shows g.W.World g.F.Files s.inodes) c.self.view_is in
@@ -72,6 +72,6 @@ returns-clause-numbers g c h p =
     sym (ap (λ (s : Checkout _). shows_numbers g.F.Files s.inodes p) c.self.view_is)
     ∙ sym (c.let_go.ensures.numbers h p)
     ∙ sym (c.store_state.ensures.numbers h p)
-    ∙ files_numbered g.W.World.repository F x t.next root c.holds.ensures.table (c.holds.ensures.kept h) none of c.tie_laws.ensures.sound c.tie_laws.ensures.numbers_below p
+    ∙ files_numbered g.W.World.repository F x t.next root c.holds.ensures.table (c.holds.ensures.kept h) none of c.tie_laws.ensures.sound p
     ∙ ap (λ (i : Id). files_number i F p) (ap (λ (s : Checkout _). s.root) c.self.view_is)
     ∙ ap (λ (G : Stored). files_number c.args.self.root G p) (sym now)

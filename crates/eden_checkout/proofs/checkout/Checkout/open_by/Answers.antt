@@ -1,5 +1,4 @@
 use Rattle.std.proofs.Common.{◌∙◌, sym, ap, subst}
-use Rattle.eden_model.specs.declared.kind.Origin.{Origin}
 use Rattle.eden_model.specs.Backing.{Backs}
 use Rattle.eden_overlay.specs.Files.{Stored}
 use Rattle.eden_overlay.specs.Held.{without}
@@ -17,7 +16,8 @@ new-requires-in-Ok-clause-starts g c h =
     let starts : Starts c.args.opening c.args.root (g.F.Files.stored c.args.files) c.in-Ok.field-0 = subst (λ (F : Stored). Starts c.args.opening c.args.root F c.in-Ok.field-0) given
     (c.in-Ok.ensures.ok h) in
     subst (λ (F : Stored). CanStart g.W.World.repository F c.in-Ok.field-0.origin c.in-Ok.field-0.next) (sym (c.in-Ok.ensures.stored h ∙ ap (λ (F : Stored). without F 0) given))
-    (can_start g.W.World.repository g.W.World.opening g.W.World.numbers c.args.root (g.F.Files.stored c.args.files) c.args.opening (c.requires.files h) c.in-Ok.field-0 starts c.in-Ok.ensures.most)
+    (can_start g.W.World.repository g.W.World.opening g.W.World.numbers c.args.root (g.F.Files.stored c.args.files) c.args.opening (c.requires.files h) c.in-Ok.field-0 starts
+    c.in-Ok.ensures.most c.numbering_laws.ensures.names_shown)
 
 pub returns-in-Ok-clause-shown : goal.returns-in-Ok-clause-shown
 returns-in-Ok-clause-shown g c h =
@@ -26,8 +26,7 @@ returns-in-Ok-clause-shown g c h =
     (c.in-Ok.ensures.ok h) in
     ap (shows g.W.World g.F.Files) c.new-in-Ok.ensures
     ∙ ap (λ (F : Stored). shown_in g.W.World.repository F (fresh_root c.in-Ok.field-0.origin)) (c.in-Ok.ensures.stored h ∙ ap (λ (F : Stored). without F 0) given)
-    ∙ ap (λ (o : Origin). shown_in g.W.World.repository (without (g.F.Files.stored c.args.files) 0) (fresh_root o)) starts.origin
-    ∙ shown_by g.W.World.repository g.W.World.opening g.W.World.numbers c.args.root (g.F.Files.stored c.args.files) c.args.opening (c.requires.files h)
+    ∙ shown_by g.W.World.repository g.W.World.opening g.W.World.numbers c.args.root (g.F.Files.stored c.args.files) c.args.opening (c.requires.files h) c.in-Ok.field-0 starts c.in-Ok.ensures.most
 
 pub returns-in-Ok-clause-numbers : goal.returns-in-Ok-clause-numbers
 returns-in-Ok-clause-numbers g c h p =
