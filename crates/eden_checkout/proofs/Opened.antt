@@ -28,9 +28,9 @@ use Rattle.eden_overlay.specs.Laws.{IsStray}
 use Rattle.eden_overlay.specs.declared.rescan.RescanFault.{RescanFault}
 use Rattle.eden_overlay.specs.declared.rescan.RescanFault.TheVariants as rescan
 use Rattle.eden_overlay.specs.Counting.{root_from}
-use Rattle.eden_overlay.specs.Rescanning.{IsRescanFault}
+use Rattle.eden_overlay.specs.Rescanning.{IsRescanFault, Accuses}
 use Rattle.eden_overlay.specs.Soundness.{Names, IsLive, HoldsKind, AreSound}
-use Rattle.eden_overlay.proofs.CallerLemmas.{put_here, put_apart, names_moved, same_or_apart, numbers_from_two, live_stay, state_stays, accused_unsound, root_same, held_storable}
+use Rattle.eden_overlay.proofs.CallerLemmas.{put_here, put_apart, names_moved, same_or_apart, numbers_from_two, live_stay, state_stays, root_same, held_storable}
 use Rattle.eden_tree.specs.Directory.{Row, Directory, child_of}
 use Rattle.eden_coupling.specs.Chains.{AreSaved}
 use Rattle.eden_coupling.specs.Listings.{Place}
@@ -46,7 +46,7 @@ use Rattle.eden_checkout.specs.declared.fault.OpenFault.TheVariants as opens
 use Rattle.eden_checkout.specs.declared.opening.Opening.{Opening}
 use Rattle.eden_checkout.specs.declared.opening.Opening.TheVariants as opening
 use Rattle.eden_checkout.specs.declared.opening.Start.{Start}
-use Rattle.eden_checkout.specs.Opening.{files_number, FilesKeep, MayOpen, AreNone, Starts, of_rescan, AreAccused, IsOpenFault, IsRescanRefusal, IsRefusal}
+use Rattle.eden_checkout.specs.Opening.{files_number, FilesKeep, MayOpen, AreNone, Starts, of_rescan, IsRefusal}
 use Rattle.eden_checkout.proofs.Listed.{root_row, RowKeeps, row_keeps, number_is, shown_is}
 
 -- numbers that are shown elsewhere too are backed there
@@ -175,40 +175,37 @@ module _ (R : Repository) (tree : Tree) (N : Numbers) (root : Id) (F : Stored) (
   pub shown_by : shown_in R (without F 0) (fresh_root start.origin) ≡ tree
   shown_by = ap (λ (o : Origin). shown_in R (without F 0) (fresh_root o)) starts.origin ∙ sym (shown_is R root F) ∙ kept.shown
 
--- whoever accuses the files shows that they aren't sound
+-- what a rescan refuses
 pub rescan_refused : (honest : Type 0) (root : Id) (F : Stored) (old new : ℕ) (fault : RescanFault) → IsRescanFault honest F root old new fault
-    → IsRescanRefusal honest root F old new (of_rescan fault)
-rescan_refused honest root F old new (rescan.Dangling k) why = λ h. (why h, accused_unsound F root (rescan.Dangling k) (why h))
-rescan_refused honest root F old new (rescan.Twice k) why = λ h. (why h, accused_unsound F root (rescan.Twice k) (why h))
-rescan_refused honest root F old new (rescan.Damaged k refusal) why = λ h. (why h, accused_unsound F root (rescan.Damaged k refusal) (why h))
+    → IsRefusal opening.Rescan honest root F old new (of_rescan fault)
+rescan_refused honest root F old new (rescan.Dangling k) why = why
+rescan_refused honest root F old new (rescan.Twice k) why = why
+rescan_refused honest root F old new (rescan.Damaged k refusal) why = why
 rescan_refused honest root F old new rescan.Device rose = rose
 rescan_refused honest root F old new rescan.Memory none = none
 
 -- where the files that were looked at are those that were given, and nothing failed before, so is the refusal
 module _ (honest : Type 0) (F G : Stored) (old looked new : ℕ) (same : honest → G ≡ F) (count : looked ≡ old) where
-  pub rescan_over : (root : Id) (fault : OpenFault) → IsRescanRefusal honest root G looked new fault → IsRescanRefusal honest root F old new fault
-  rescan_over root opens.NotClean h = h
-  rescan_over root (opens.OtherRoot stored) h = h
-  rescan_over root (opens.Damaged k refusal) h = λ outside. subst (λ (H : Stored). AreAccused H root (rescan.Damaged k refusal)) (same outside) (h outside)
-  rescan_over root opens.Device h = subst (λ n. Rose n new) count h
-  rescan_over root opens.Memory h = h
-  rescan_over root (opens.Dangling k) h = λ outside. subst (λ (H : Stored). AreAccused H root (rescan.Dangling k)) (same outside) (h outside)
-  rescan_over root (opens.Twice k) h = λ outside. subst (λ (H : Stored). AreAccused H root (rescan.Twice k)) (same outside) (h outside)
-
-  pub state_over : (root : Id) (fault : OpenFault) → IsOpenFault honest root G looked new fault → IsOpenFault honest root F old new fault
-  state_over root opens.NotClean h = λ outside. subst (λ (H : Stored). (H 0 ≡ None) × ((k : ℕ) × IsSome (H k))) (same outside) (h outside)
-  state_over root (opens.OtherRoot stored) h = (h.0, λ outside. subst (λ (H : Stored). (s : State) × (HoldsState H s × (s.root ≡ stored))) (same outside) (h.1 outside))
-  state_over root (opens.Damaged k refusal) h =
+  pub refused_of : (how : Opening) (root : Id) (fault : OpenFault) → IsRefusal how honest root G looked new fault → IsRefusal how honest root F old new fault
+  refused_of how root opens.Device h = subst (λ n. Rose n new) count h
+  refused_of how root opens.Memory h = h
+  refused_of opening.Closed root opens.NotClean h = λ outside. subst (λ (H : Stored). (H 0 ≡ None) × ((k : ℕ) × IsSome (H k))) (same outside) (h outside)
+  refused_of opening.Closed root (opens.OtherRoot stored) h =
+      (h.0, λ outside. subst (λ (H : Stored). (s : State) × (HoldsState H s × (s.root ≡ stored))) (same outside) (h.1 outside))
+  refused_of opening.Closed root (opens.Damaged k refusal) h =
       (h.0, λ outside. subst (λ (H : Stored). Explains identifier.File state_in (H 0) (get.Damaged refusal)) (same outside) (h.1 outside))
-  state_over root opens.Device h = subst (λ n. Rose n new) count h
-  state_over root opens.Memory h = h
-  state_over root (opens.Dangling k) h = h
-  state_over root (opens.Twice k) h = h
+  refused_of opening.Closed root (opens.Dangling k) h = h
+  refused_of opening.Closed root (opens.Twice k) h = h
+  refused_of opening.Rescan root opens.NotClean h = h
+  refused_of opening.Rescan root (opens.OtherRoot stored) h = h
+  refused_of opening.Rescan root (opens.Damaged k refusal) h = λ outside. subst (λ (H : Stored). Accuses H root (rescan.Damaged k refusal)) (same outside) (h outside)
+  refused_of opening.Rescan root (opens.Dangling k) h = λ outside. subst (λ (H : Stored). Accuses H root (rescan.Dangling k)) (same outside) (h outside)
+  refused_of opening.Rescan root (opens.Twice k) h = λ outside. subst (λ (H : Stored). Accuses H root (rescan.Twice k)) (same outside) (h outside)
 
 pub refused_over : (honest : Type 0) (how : Opening) (root : Id) (F G : Stored) (old looked new : ℕ) (fault : OpenFault) → how ≡ opening.Rescan → (honest → G ≡ F) → looked ≡ old
-    → IsRescanRefusal honest root G looked new fault → IsRefusal how honest root F old new fault
+    → IsRefusal opening.Rescan honest root G looked new fault → IsRefusal how honest root F old new fault
 refused_over honest how root F G old looked new fault is same count why =
-    subst (λ (o : Opening). IsRefusal o honest root F old new fault) (sym is) (rescan_over honest F G old looked new same count root fault why)
+    subst (λ (o : Opening). IsRefusal o honest root F old new fault) (sym is) (refused_of honest F G old looked new same count opening.Rescan root fault why)
 
 pub handed_up : {X Y : Type 0} (r : Result X Y) (e : Y) (P : Y → Type 0) → IsErrAnd r (λ (x : Y). x ≡ e) → P e → IfErr r P
 handed_up (Ok v) e P is h = tt

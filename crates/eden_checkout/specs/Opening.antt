@@ -27,7 +27,7 @@ use Rattle.eden_overlay.specs.Held.{HoldsState, root_file, saved_at, item_of, it
 use Rattle.eden_overlay.specs.declared.rescan.RescanFault.{RescanFault}
 use Rattle.eden_overlay.specs.declared.rescan.RescanFault.TheVariants as rescan
 use Rattle.eden_overlay.specs.Counting.{root_from, listing_at, NumbersAreSound}
-use Rattle.eden_overlay.specs.Rescanning.{IsNextOf, Accuses, CanRescan}
+use Rattle.eden_overlay.specs.Rescanning.{IsNextOf, Accuses}
 use Rattle.eden_overlay.specs.Soundness.{AreSound}
 use Rattle.eden_inode.specs.Tables.{Table, shows_numbers}
 use Rattle.eden_checkout.specs.declared.fault.OpenFault.{OpenFault}
@@ -123,30 +123,15 @@ of_rescan (rescan.Damaged k refusal) = opens.Damaged k refusal
 of_rescan rescan.Device = opens.Device
 of_rescan rescan.Memory = opens.Memory
 
--- F are the files, and the counts are those of the device's failures before and then
-abbrev pub IsOpenFault : Type 0 → Id → Stored → ℕ → ℕ → OpenFault → Type 0
-IsOpenFault honest root F old new opens.NotClean = honest → (F 0 ≡ None) × ((k : ℕ) × IsSome (F k))
-IsOpenFault honest root F old new (opens.OtherRoot stored) = (stored ≢ root) × (honest → (s : State) × (HoldsState F s × (s.root ≡ stored)))
-IsOpenFault honest root F old new (opens.Damaged k refusal) = (k ≡ 0) × (honest → Explains identifier.File state_in (F 0) (get.Damaged refusal))
-IsOpenFault honest root F old new opens.Device = Rose old new
-IsOpenFault honest root F old new opens.Memory = Unit {0}
-IsOpenFault honest root F old new (opens.Dangling k) = ⊥
-IsOpenFault honest root F old new (opens.Twice k) = ⊥
-
--- the files are as that fault accuses them, and so no rescan opens them
-abbrev pub AreAccused : Stored → Id → RescanFault → Type 0
-AreAccused F root fault = Accuses F root fault × (¬ CanRescan F root)
-
--- .. and why not by a rescan: the first thing that was met from file 1 down, or the device or memory
-abbrev pub IsRescanRefusal : Type 0 → Id → Stored → ℕ → ℕ → OpenFault → Type 0
-IsRescanRefusal honest root F old new opens.NotClean = ⊥
-IsRescanRefusal honest root F old new (opens.OtherRoot stored) = ⊥
-IsRescanRefusal honest root F old new (opens.Damaged k refusal) = honest → AreAccused F root (rescan.Damaged k refusal)
-IsRescanRefusal honest root F old new opens.Device = Rose old new
-IsRescanRefusal honest root F old new opens.Memory = Unit {0}
-IsRescanRefusal honest root F old new (opens.Dangling k) = honest → AreAccused F root (rescan.Dangling k)
-IsRescanRefusal honest root F old new (opens.Twice k) = honest → AreAccused F root (rescan.Twice k)
-
+-- It isn't opened so, for that fault: a rescan tells the first thing that was met from file 1 down. F are the files, and the counts are
+-- those of the device's failures before and then.
 abbrev pub IsRefusal : Opening → Type 0 → Id → Stored → ℕ → ℕ → OpenFault → Type 0
-IsRefusal opening.Closed honest root F old new fault = IsOpenFault honest root F old new fault
-IsRefusal opening.Rescan honest root F old new fault = IsRescanRefusal honest root F old new fault
+IsRefusal how honest root F old new opens.Device = Rose old new
+IsRefusal how honest root F old new opens.Memory = Unit {0}
+IsRefusal opening.Closed honest root F old new opens.NotClean = honest → (F 0 ≡ None) × ((k : ℕ) × IsSome (F k))
+IsRefusal opening.Closed honest root F old new (opens.OtherRoot stored) = (stored ≢ root) × (honest → (s : State) × (HoldsState F s × (s.root ≡ stored)))
+IsRefusal opening.Closed honest root F old new (opens.Damaged k refusal) = (k ≡ 0) × (honest → Explains identifier.File state_in (F 0) (get.Damaged refusal))
+IsRefusal opening.Rescan honest root F old new (opens.Damaged k refusal) = honest → Accuses F root (rescan.Damaged k refusal)
+IsRefusal opening.Rescan honest root F old new (opens.Dangling k) = honest → Accuses F root (rescan.Dangling k)
+IsRefusal opening.Rescan honest root F old new (opens.Twice k) = honest → Accuses F root (rescan.Twice k)
+IsRefusal how honest root F old new fault = ⊥

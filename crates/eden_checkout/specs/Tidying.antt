@@ -16,7 +16,8 @@ use Rattle.eden_overlay.specs.Tidying.{ListsOrphans, IsTidied, IsTidiedInPart, b
 use Rattle.eden_checkout.specs.declared.fault.OpenFault.{OpenFault}
 use Rattle.eden_checkout.specs.declared.tidying.TidyFault.{TidyFault}
 use Rattle.eden_checkout.specs.declared.tidying.TidyFault.TheVariants as tidy
-use Rattle.eden_checkout.specs.Opening.{AreNone, files_show, CanOpen, IsOpenFault, IsRescanRefusal}
+use Rattle.eden_checkout.specs.declared.opening.Opening.TheVariants as opening
+use Rattle.eden_checkout.specs.Opening.{AreNone, files_show, CanOpen, IsRefusal}
 
 -- there are no files, or a state among them, which a close stores last and an opening removes
 abbrev pub IsClosed : Stored → Type 0
@@ -54,7 +55,8 @@ pub record CountsOrphans (F : Stored) (root : Id) (removed : Removed) : Type 0 w
 -- counts are those of the device's failures before and then.
 abbrev pub IsTidyRefusal : Type 0 → Stored → ℕ → ℕ → OpenFault → Type 0
 IsTidyRefusal honest F old new fault =
-    ((root : Id) → IsOpenFault honest root F old new fault) ⊎ ((root : Id) × (IsRescanRefusal honest root F old new fault × (honest → IsClosedOver root F)))
+    ((root : Id) → IsRefusal opening.Closed honest root F old new fault)
+    ⊎ ((root : Id) × (IsRefusal opening.Rescan honest root F old new fault × (honest → IsClosedOver root F)))
 
 -- a refusal leaves the files F, and a removal that failed the files G, which lack some orphans
 abbrev pub IsTidyFault : Type 0 → Stored → Stored → ℕ → ℕ → TidyFault → Type 0

@@ -11,7 +11,7 @@ ghost use Rattle.eden_overlay.specs.Rescanning.{IsNextOf};
 ghost use Rattle.eden_overlay.specs.Soundness.{AreSound};
 ghost use Rattle.eden_checkout.specs.declared.opening.Opening.TheVariants as opening;
 ghost use Rattle.eden_checkout.specs.Opening.{CanOpen, MayOpen, Finds, files_show, ShowsNumbersOf};
-ghost use Rattle.eden_checkout.specs.Opening.{IsOpenFault, IsRescanRefusal, IsRefusal};
+ghost use Rattle.eden_checkout.specs.Opening.{IsRefusal};
 
 use crate::closing::{as_files, store_state};
 use crate::fault::OpenFault;
@@ -79,7 +79,7 @@ impl<A: Allocator + Clone, W: World, F: Files<W>> Checkout<A, W, F> {
             (λ c. (c.inodes.clock ≡ 0) × ((c.inodes.changes ≡ 0) × ((c.cache ≡ cache) × (c.root ≡ root)))) }
         ensures saved { IfOk result (λ c. AreSaved c.inodes.root) }
         ensures fault { IfErr result
-            (λ e. IsOpenFault W.honest root (F.stored files) (F.failures files) (F.failures e.1) e.0) }
+            (λ e. IsRefusal opening.Closed W.honest root (F.stored files) (F.failures files) (F.failures e.1) e.0) }
         ensures unchanged { W.honest → IfErr result (λ e. F.stored e.1 ≡ F.stored files) }
     {
         Self::open_by(alloc, dirs, files, root, cache, Opening::Closed)
@@ -115,7 +115,7 @@ impl<A: Allocator + Clone, W: World, F: Files<W>> Checkout<A, W, F> {
             (λ c. (c.inodes.clock ≡ 0) × ((c.inodes.changes ≡ 0) × ((c.cache ≡ cache) × (c.root ≡ root)))) }
         ensures saved { IfOk result (λ c. AreSaved c.inodes.root) }
         ensures fault { IfErr result
-            (λ e. IsRescanRefusal W.honest root (F.stored files) (F.failures files) (F.failures e.1) e.0) }
+            (λ e. IsRefusal opening.Rescan W.honest root (F.stored files) (F.failures files) (F.failures e.1) e.0) }
         ensures unchanged { W.honest → IfErr result (λ e. F.stored e.1 ≡ F.stored files) }
     {
         Self::open_by(alloc, dirs, files, root, cache, Opening::Rescan)

@@ -7,7 +7,8 @@ ghost use Rattle.eden_overlay.specs.Held.{HoldsState, without};
 ghost use Rattle.eden_overlay.specs.Counting.{NumbersAreSound};
 ghost use Rattle.eden_overlay.specs.Rescanning.{IsNextOf};
 ghost use Rattle.eden_overlay.specs.Soundness.{AreSound};
-ghost use Rattle.eden_checkout.specs.Opening.{Starts, IsRootOf, IsOpenFault, IsRescanRefusal, IsRefusal};
+ghost use Rattle.eden_checkout.specs.declared.opening.Opening.TheVariants as opening;
+ghost use Rattle.eden_checkout.specs.Opening.{Starts, IsRootOf, IsRefusal};
 
 use crate::fault::OpenFault;
 use eden_model::{Id, Origin, World};
@@ -46,7 +47,8 @@ pub(crate) fn stored_state<W: World, F: Files<W>>(
     ensures ok { W.honest → IfOk result (HoldsState (F.stored overlay.old)) }
     ensures good { IfOk result IsGoodState }
     ensures refused { IfErr result (λ fault. (root : Id)
-        → IsOpenFault W.honest root (F.stored overlay.old) (F.failures overlay.old) (F.failures overlay.new) fault) }
+        → IsRefusal opening.Closed W.honest root (F.stored overlay.old)
+        (F.failures overlay.old) (F.failures overlay.new) fault) }
     ensures unchanged { W.honest → F.stored overlay.new ≡ F.stored overlay.old }
     ensures unfailed { OnOk result (F.failures overlay.new ≡ F.failures overlay.old) }
     ensures counted { F.failures overlay.old ≤ F.failures overlay.new }
@@ -71,7 +73,8 @@ fn state_of<W: World, F: Files<W>>(
     ensures root { IfOk result (λ s. s.root ≡ root) }
     ensures good { IfOk result IsGoodState }
     ensures refused { IfErr result
-        (IsOpenFault W.honest root (F.stored overlay.old) (F.failures overlay.old) (F.failures overlay.new)) }
+        (IsRefusal opening.Closed W.honest root (F.stored overlay.old)
+        (F.failures overlay.old) (F.failures overlay.new)) }
     ensures unchanged { W.honest → F.stored overlay.new ≡ F.stored overlay.old }
     ensures counted { F.failures overlay.old ≤ F.failures overlay.new }
 {
@@ -94,7 +97,8 @@ fn rescanned<W: World, F: Files<W>>(
     ensures least { IfOk result (λ next. number_least ≤ next) }
     ensures most { IfOk result (λ next. next ≤ number_end) }
     ensures refused { IfErr result
-        (IsRescanRefusal W.honest root (F.stored overlay.old) (F.failures overlay.old) (F.failures overlay.new)) }
+        (IsRefusal opening.Rescan W.honest root (F.stored overlay.old)
+        (F.failures overlay.old) (F.failures overlay.new)) }
     ensures unchanged { W.honest → F.stored overlay.new ≡ F.stored overlay.old }
     ensures counted { F.failures overlay.old ≤ F.failures overlay.new }
 {

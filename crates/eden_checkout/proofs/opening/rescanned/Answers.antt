@@ -1,6 +1,7 @@
 use Rattle.std.proofs.Common.{sym, subst}
 use Rattle.eden_checkout.specs.declared.fault.OpenFault.{OpenFault}
-use Rattle.eden_checkout.specs.Opening.{IsRescanRefusal}
+use Rattle.eden_checkout.specs.declared.opening.Opening.TheVariants as opening
+use Rattle.eden_checkout.specs.Opening.{IsRefusal}
 use Rattle.eden_checkout.proofs.Opened.{rescan_refused}
 use Rattle.eden_checkout.proofs.opening.rescanned.Goals as goal
 
@@ -9,5 +10,5 @@ returns-in-Err-clause-refused g c =
     let F = g.F.Files.stored c.args.overlay.now in
     let old = g.F.Files.failures c.args.overlay.now in
     let new = g.F.Files.failures c.rescan.new.self in
-    subst (λ (e : OpenFault). IsRescanRefusal g.W.World.honest c.args.root F old new e) (sym c.from.ensures)
+    subst (λ (e : OpenFault). IsRefusal opening.Rescan g.W.World.honest c.args.root F old new e) (sym c.from.ensures)
     (rescan_refused g.W.World.honest c.args.root F old new c.in-Err.fault c.in-Err.ensures.refused)

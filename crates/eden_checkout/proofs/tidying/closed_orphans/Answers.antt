@@ -4,9 +4,10 @@ use Rattle.std.proofs.lemmas.List.{nil_from_length}
 use Rattle.eden_overlay.specs.Files.{Stored}
 use Rattle.eden_overlay.specs.Held.{HoldsState}
 use Rattle.eden_overlay.specs.Tidying.{ListsOrphans}
+use Rattle.eden_checkout.specs.declared.opening.Opening.TheVariants as opening
 use Rattle.eden_checkout.specs.Opening.{of_rescan}
 use Rattle.eden_checkout.specs.Tidying.{IsTidyRefusal}
-use Rattle.eden_checkout.proofs.Opened.{handed_up, rescan_over, rescan_refused, state_over}
+use Rattle.eden_checkout.proofs.Opened.{handed_up, refused_of, rescan_refused}
 use Rattle.eden_checkout.proofs.Tidied.{none_stored, none_listed, listed_over}
 use Rattle.eden_checkout.proofs.tidying.closed_orphans.Goals as goal
 
@@ -22,7 +23,7 @@ returns-in_err-state-clause-refused g c =
     let count : looked ≡ old = c.list.ensures.counted.same (λ failed. cc) in
     let fault = c.in_err-state.field-0.0 in
     handed_up c.from_residual-in_err-state.result fault (IsTidyRefusal honest F old new) c.from_residual-in_err-state.ensures.1
-    (inl (λ root. state_over honest F G old looked new c.list.ensures.unchanged count root fault (c.in_err-state.ensures.refused root)))
+    (inl (λ root. refused_of honest F G old looked new c.list.ensures.unchanged count opening.Closed root fault (c.in_err-state.ensures.refused root)))
 
 pub returns-in_err-orphans-clause-refused : goal.returns-in_err-orphans-clause-refused
 returns-in_err-orphans-clause-refused g c =
@@ -42,7 +43,7 @@ returns-in_err-orphans-clause-refused g c =
     (inr (
       root,
       (
-        rescan_over honest F G old looked new (λ outside. c.stored_state.ensures.unchanged outside ∙ c.list.ensures.unchanged outside) count root (of_rescan fault)
+        refused_of honest F G old looked new (λ outside. c.stored_state.ensures.unchanged outside ∙ c.list.ensures.unchanged outside) count opening.Rescan root (of_rescan fault)
             (rescan_refused honest root G looked new fault c.in_err-orphans.ensures.refused),
         λ outside. inr (c.in_ok-state.state, (held outside, refl)),
       ),
