@@ -1,8 +1,8 @@
 -- Lemmas on a session that reads in pieces: it is as if all that it read had been answered at once.
 use Rattle.std.proofs.Common.{◌≡◌, ℕ, ◌<◌, ◌≤◌, List, [], ◌∷◌, ◌++◌, length, Bool, true, false, ◌==◌, Result, Ok, Err, inl, inr, ◌⊎◌}
-use Rattle.std.proofs.Common.{◌∙◌, refl, append_assoc, append-nil, arith}
+use Rattle.std.proofs.Common.{take, ap, ◌∙◌, refl, append_assoc, append-nil, arith}
 use Rattle.std.proofs.lemmas.Bool.{false≢true}
-use Rattle.std.proofs.lemmas.List.{nil_from_length}
+use Rattle.std.proofs.lemmas.List.{nil_from_length, take-append-le, take_all}
 use Rattle.std.proofs.KnownBytes.{Appends-nil, Appends-kept, Appends-trans, Consumes-nil, Consumes-kept, Consumes-trans, Keeps-refl}
 use Rattle.std.specs.Prelude.{⊤}
 use Rattle.std.specs.Io.KnownBytes.{Appends, Consumes, IsAtEnd, Keeps}
@@ -35,6 +35,13 @@ front_then o p q x y done w = record {
 writes_then : {T E : Type 0} (r : Result T E) (o p q : Known) (x y : List ℕ) → Appends o p x → Writes p q r y → Writes o q r (x ++ y)
 writes_then (Ok v) o p q x y done wrote = Appends-trans o p q x y done wrote
 writes_then (Err e) o p q x y done wrote = front_then o p q x y done wrote
+
+-- a beginning of a text is so many of its first bytes
+first_bytes : (old new : Known) (text : List ℕ) → WritesFront old new text → (n : ℕ) × Appends old new (take n text)
+first_bytes old new text w =
+    let n = length w.front in
+    let same : take n text ≡ w.front = ap (take n) w.whole ∙ take-append-le n w.front w.rest (omega arith) ∙ take_all n w.front (omega arith) in
+    (n, rw same w.appends)
 
 -- the input ends with a line that is no request or too long
 bad_end : (rest : List ℕ) (unread : Known) (last : List Item) → (last ≡ Bad ∷ []) × IsBadEnd rest → Ends unread rest last
@@ -161,7 +168,9 @@ module _ {S : Type 0} {answers : Answering S} {service : S × S} {input written 
   -- a write failed
   pub session_unwritten : {e : WriteFailed} → Through answers service input written output rest (Err e)
       → Session answers service input written (Err fault.Write)
-  session_unwritten so = session_of so (Err fault.Write) (ends so.answered.left, so.answered.wrote)
+  session_unwritten so =
+      let front = first_bytes _ _ _ so.answered.wrote in
+      session_of so (Err fault.Write) (ends so.answered.left, front.0, front.1)
     where
       ends : (so.answered.last ≡ []) ⊎ ((so.answered.last ≡ Bad ∷ []) × IsBadEnd so.answered.rest)
           → (so.answered.last ≡ []) ⊎ Ends input.1 so.answered.rest so.answered.last
@@ -206,7 +215,7 @@ module _ {S : Type 0} {answers : Answering S} {service : S × S} {input : Known 
       session_last so (Bad ∷ []) refl (Ok v) (rw append-nil ended) (λ text wrote. (cut_end so (omega arith) end, wrote))
   session_ended (Err e) (b ∷ rest) so end ended =
       let bad = cut_end so (omega arith) end in
-      rw ended.0 (session_last so (Bad ∷ []) refl (Err fault.Write) (rw append-nil ended.1) (λ text wrote. (inr bad, wrote)))
+      rw ended.0 (session_last so (Bad ∷ []) refl (Err fault.Write) (rw append-nil ended.1) (λ text wrote. let front = first_bytes _ _ _ wrote in (inr bad, front.0, front.1)))
 
 pub session_end : {S : Type 0} {answers : Answering S} {service : S × S} {i j k o p q : Known} {output : Output} {rest now : List ℕ} {n : ℕ}
     {r : Result ⊤ SessionFault} → Through answers service (i, j) (o, p) output rest (Ok true) → ReadSome j k rest now n → n ≡ 0 → Ended now p q r

@@ -1,5 +1,5 @@
 -- What a session says: the texts of the answers to the lines that it read.
-use Rattle.std.specs.Prelude.{ℕ, ◌≡◌, List, [], ◌∷◌, ◌++◌, Option, Some, None, Result, Ok, Err, ⊤, ◌⊎◌}
+use Rattle.std.specs.Prelude.{ℕ, ◌≡◌, List, [], ◌∷◌, ◌++◌, take, Option, Some, None, Result, Ok, Err, ⊤, ◌⊎◌}
 use Rattle.std.specs.Borrow.{Bor}
 use Rattle.std.specs.Io.KnownBytes.{Appends, Consumes, Keeps}
 use Rattle.eden_model.specs.declared.errno.Errno.TheVariants.{EPROTO}
@@ -8,7 +8,6 @@ use Rattle.eden_model.specs.declared.reply.Reply.{Reply}
 use Rattle.eden_model.specs.declared.fault.CallFault.{CallFault}
 use Rattle.eden_wire.specs.Replies.{answer_text, error_text}
 use Rattle.eden_wire.specs.Lines.{Lines, Ends, IsOneLine}
-use Rattle.eden_wire.specs.Writing.{WritesFront}
 use Rattle.eden_wire.specs.declared.request.Item.{Item}
 use Rattle.eden_wire.specs.declared.request.Item.TheVariants.{Asks, Refuses, Bad}
 use Rattle.eden_wire.specs.declared.session_fault.SessionFault.{SessionFault}
@@ -44,14 +43,14 @@ module _ {S : Type 0} (answers : Answering S) where
   Serves s (Bad ∷ items) given t = Serves s items given t
   Serves s items given t = ⊥
 
--- with all texts written at the input's end, a bad line or a failed read, a beginning at a failed write, or no memory to begin
+-- how a session ended: with the input or a bad line; at a failed read; at a failed write, with a beginning of the texts; with no memory to begin
 abbrev pub Said : Result ⊤ SessionFault → List ℕ → List Item → List ℕ → Known → Known × Known → List ℕ → Type 0
 Said (Ok _) read last rest unread output text = Ends unread rest last × Appends output.0 output.1 text
 Said (Err fault.Read) read last rest unread output text = (last ≡ []) × IsOneLine rest × Appends output.0 output.1 text
-Said (Err fault.Write) read last rest unread output text = ((last ≡ []) ⊎ Ends unread rest last) × WritesFront output.0 output.1 text
+Said (Err fault.Write) read last rest unread output text = ((last ≡ []) ⊎ Ends unread rest last) × (n : ℕ) × Appends output.0 output.1 (take n text)
 Said (Err fault.Memory) read last rest unread output text = (read ≡ []) × (last ≡ []) × Keeps output.0 output.1
 
--- the service, the input and the output before and after: lines were read, the service answered them, and the texts were written
+-- with the service, the input and the output before and after: what was read are lines, which were served, and the answers' texts were written
 pub record Session {S : Type 0} (answers : Answering S) (service : S × S) (input output : Known × Known) (r : Result ⊤ SessionFault) : Type 0 where
   pub read : List ℕ
   pub items : List Item
