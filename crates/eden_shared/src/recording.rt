@@ -119,14 +119,27 @@ impl<J: Naming> Recording<J> {
         ensures err { OnErr result (self.new ≡ self.old) }
         ensures why { IfErr result (IsLawful W.honest W.opening W.numbers self.old) }
     {
-        let kept = keep(shared.alloc, &mut self.told, &request)?;
-        let answer = self.pass.call(shared, rt, request)?;
-        self.told.push_reserved(Told {
-            number: answer.number,
-            request: kept,
-            reply: answer.reply,
-        });
-        Ok(())
+        let kept = match keep(shared.alloc, &mut self.told, &request) {
+            Ok(kept) => kept,
+            Err(fault) => {
+                drop(request);
+                return Err(fault);
+            }
+        };
+        match self.pass.call(shared, rt, request) {
+            Ok(answer) => {
+                self.told.push_reserved(Told {
+                    number: answer.number,
+                    request: kept,
+                    reply: answer.reply,
+                });
+                Ok(())
+            }
+            Err(fault) => {
+                drop(kept);
+                Err(fault)
+            }
+        }
     }
 
     /// As `Pass::call`, and what it was told lies here from then on. After a fault, as for want of memory to keep it,
