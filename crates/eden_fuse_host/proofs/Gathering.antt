@@ -65,8 +65,8 @@ pub each_stays : (ps ps' : List Carried) (n : ℕ) → seats ps' ≡ seats ps �
 each_stays ps ps' n same each = record {
   count = count_stays ps ps' same ∙ each.count;
   each = λ c least most.
-      let found = each.each c least most in let there = has_after ps ps' found.1.0 found.0 same found.1.1 in
-      (there.0, (found.1.0, there.1), ap (λ (x : Terms × ℕ). x.1) there.2 ∙ found.2);
+      let found = each.each c least most in let there = has_after ps ps' found.1 found.0 same found.2 in
+      (there.0, found.1, there.1, ap (λ (x : Terms × ℕ). x.1) there.2 ∙ found.3);
 }
 
 -- a pass that there is afterwards is of the mount of which all were

@@ -38,19 +38,18 @@ looked_same p p' same = record {
 }
 
 -- one look was made
-pub looked_once : (honest : Type 0) (opening : Tree) (N : Numbers) (p p' : Carried) (q : Request) → ChangesNothing q → Grows honest opening N p q p' → HasLooked p p'
-looked_once honest opening N p p' q quiet grown = record {
+pub looked_once : (honest : Type 0) (opening : Tree) (N : Numbers) (p p' : Carried) (t : Told) → ChangesNothing t.request → Grows honest opening N p t p' → HasLooked p p'
+looked_once honest opening N p p' t quiet grown = record {
   seat = (ap (λ (x : Carried). x.number) grown.is, ap (λ (x : Carried). x.terms) grown.is);
-  looks = told grown.number q grown.reply ∷ [];
+  looks = t ∷ [];
   told = ap (λ (x : Carried). x.told) grown.is;
   change_nothing = (quiet, tt);
 }
 
 -- .. and it met a fault
-pub met_once : (honest : Type 0) (opening : Tree) (N : Numbers) (p p' : Carried) (q : Request) (why : Cause) (grown : Grows honest opening N p q p') → grown.reply ≡ Fault why
+pub met_once : (honest : Type 0) (opening : Tree) (N : Numbers) (p p' : Carried) (n : ℕ) (q : Request) (r : Reply) (why : Cause) → Grows honest opening N p (told n q r) p' → r ≡ Fault why
     → HasMetFault p p'
-met_once honest opening N p p' q why grown is =
-    (grown.number, q, why, ap (λ (x : Carried). x.told) grown.is ∙ ap (λ (r : Reply). p.told ++ told grown.number q r ∷ []) is)
+met_once honest opening N p p' n q r why grown is = (n, q, why, ap (λ (x : Carried). x.told) grown.is ∙ ap (λ (s : Reply). p.told ++ told n q s ∷ []) is)
 
 all_quiet : (ts us : List Told) → AllByRecursion IsQuiet ts → AllByRecursion IsQuiet us → AllByRecursion IsQuiet (ts ++ us)
 all_quiet [] us a b = b

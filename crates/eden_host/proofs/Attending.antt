@@ -27,7 +27,7 @@ module _ (honest : Type 0) (opening : Tree) (N : Numbers) where
   who p = (p.terms, p.number)
 
   number_stays : (p p' : Carried) (q : Request) (a : Result Reply CallFault) → GuestAnswers honest opening N p q a p' → who p' ≡ who p
-  number_stays p p' q (Ok reply) answers = ap who answers.0.is
+  number_stays p p' q (Ok reply) answers = ap who answers.1.is
   number_stays p p' q (Err fault) answers = ap who answers.1
 
   numbers_stay : (items : List Item) (given : List (Option (Result Reply CallFault))) (p p' : Carried) → Serves (GuestAnswers honest opening N) p items given p' → who p' ≡ who p

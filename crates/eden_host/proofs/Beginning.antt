@@ -15,7 +15,7 @@ use Rattle.eden_host.specs.Guests.{HasLearntNothing}
 -- new passes learnt nothing
 pub newcomers_learnt : (t : Terms) (c n : ℕ) → AllByRecursion HasLearntNothing (newcomers t c n)
 newcomers_learnt t c zero = tt
-newcomers_learnt t c (suc n) = (refl, newcomers_learnt t (suc c) n)
+newcomers_learnt t c (suc n) = (record { awaits = λ most all. omega arith }, newcomers_learnt t (suc c) n)
 
 newcomers_count : (t : Terms) (c n : ℕ) → length (newcomers t c n) ≡ n
 newcomers_count t c zero = refl
@@ -41,7 +41,7 @@ newcomers_each t n = record {
   count = newcomers_count t 1 n;
   each = λ c least most.
       let number : 1 + (c - 1) ≡ c = omega arith in
-      (carried t c 1 [], (c - 1, newcomer_at t 1 n (c - 1) (omega arith) ∙ ap (λ (b : ℕ). Some (carried t b 1 [])) number), refl);
+      (carried t c 1 [], c - 1, newcomer_at t 1 n (c - 1) (omega arith) ∙ ap (λ (b : ℕ). Some (carried t b 1 [])) number, refl);
 }
 
 nobody_sits : (n k : ℕ) (s : Pending) → ¬ (slice_index_or (replicate n None) k None ≡ Some s)

@@ -52,7 +52,7 @@ module _ {I O : Type 0} (i : Read I) (w : Write O) (honest : Type 0) (opening : 
 
   number_after : (ps ps' : List Carried) (o : Option (Result ⊤ HostFault)) (c : ℕ) → AreAttended i w honest opening N ps ps' o → HasNumber ps c → HasNumber ps' c
   number_after ps ps' o c h found =
-      let there = has_after ps ps' o found.1.0 found.0 h found.1.1 in (there.0, (found.1.0, there.1), there.2 ∙ found.2)
+      let there = has_after ps ps' o found.1 found.0 h found.2 in (there.0, found.1, there.1, there.2 ∙ found.3)
 
   terms_after : (t : Terms) (ps ps' : List Carried) (o : Option (Result ⊤ HostFault)) → AreAttended i w honest opening N ps ps' o → AllOf t ps → AllOf t ps'
   terms_after t [] [] o h all k p at = all k p at

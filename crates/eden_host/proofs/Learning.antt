@@ -1,32 +1,25 @@
 -- A pass that waits for no number but those that it was told.
-use Rattle.std.proofs.Common.{◌≡◌, ◌+◌, ◌-◌, List, [], ◌∷◌, ◌++◌, length, length-append, slice_get, Some, refl, sym, ap, ◌∙◌, subst, arith}
-use Rattle.eden_model.specs.declared.request.Request.{Request}
+use Rattle.std.proofs.Common.{ℕ, ◌≤◌, List, [], ◌∷◌, ◌++◌, sym, subst, arith}
+use Rattle.std.specs.List.{AllByRecursion}
+use Rattle.eden_model.specs.declared.fault.CallFault.{CallFault}
+use Rattle.eden_model.specs.declared.fault.CallFault.TheVariants.{Start, Foreign, Stopped}
 use Rattle.eden_model.specs.Numbers.{Numbers}
 use Rattle.eden_model.specs.Trees.{Tree}
 use Rattle.eden_shared.specs.declared.account.Told.{Told}
-use Rattle.eden_shared.specs.Accounts.{told}
-use Rattle.eden_shared.specs.declared.lanes.Answered.{Answered}
-use Rattle.eden_shared.specs.Calls.{Grows, Gives, last_told}
+use Rattle.eden_shared.specs.Calls.{Grows, IsLawful}
 use Rattle.eden_shared.specs.Passes.{Carried}
-use Rattle.eden_host.specs.Guests.{HasLearntNothing, last_reply}
+use Rattle.eden_host.specs.Guests.{HasLearntNothing, IsTurnedAway}
 
-last_pushed : (ts : List Told) (t : Told) → last_told (ts ++ t ∷ []) ≡ t.number
-last_pushed [] t = refl
-last_pushed (u ∷ []) t = refl
-last_pushed (u ∷ v ∷ ts) t = last_pushed (v ∷ ts) t
+last_of : (ts : List Told) (t : Told) (most : ℕ) → AllByRecursion (λ (u : Told). u.number ≤ most) (ts ++ t ∷ []) → t.number ≤ most
+last_of [] t most all = all.0
+last_of (u ∷ ts) t most all = last_of ts t most all.1
 
-pub learnt_more : (honest : Type 0) (opening : Tree) (N : Numbers) (p p' : Carried) (q : Request) → Grows honest opening N p q p' → HasLearntNothing p'
-learnt_more honest opening N p p' q grown = subst HasLearntNothing (sym grown.is) (ap (λ n. n + 1) (sym (last_pushed p.told (told grown.number q grown.reply))))
+pub learnt_more : (honest : Type 0) (opening : Tree) (N : Numbers) (p p' : Carried) (t : Told) → Grows honest opening N p t p' → HasLearntNothing p'
+learnt_more honest opening N p p' t grown = subst HasLearntNothing (sym grown.is) (record { awaits = λ most all. let last = last_of p.told t most all in omega arith })
 
-read_behind : (ts : List Told) (t : Told) → slice_get (ts ++ t ∷ []) (length ts) ≡ Some t
-read_behind [] t = refl
-read_behind (u ∷ ts) t = read_behind ts t
-
-last_read : (ts : List Told) (t : Told) → slice_get (ts ++ t ∷ []) (length (ts ++ t ∷ []) - 1) ≡ Some t
-last_read ts t = ap (slice_get (ts ++ t ∷ [])) (let more = length-append ts (t ∷ []) in omega (arith, more)) ∙ read_behind ts t
-
--- the answer's reply is what the pass was told last
-pub answered_last : (honest : Type 0) (opening : Tree) (N : Numbers) (p p' : Carried) (q : Request) (a : Answered) → Gives honest opening N p q a p' → last_reply p'.told a.reply
-answered_last honest opening N p p' q a h =
-    let t : Told = told h.0.number q h.0.reply in
-    (t, subst (λ (x : Carried). slice_get x.told (length x.told - 1) ≡ Some t) (sym h.0.is) (last_read p.told t), h.2)
+-- so it is never foreign
+pub turned_away : (honest : Type 0) (opening : Tree) (N : Numbers) (p : Carried) (f : CallFault) → HasLearntNothing p → IsLawful honest opening N p f
+    → IsTurnedAway honest opening N p f
+turned_away honest opening N p (Start why) learnt is = is
+turned_away honest opening N p (Foreign f l) learnt is = let most = learnt.awaits l is.2 in let behind = is.1 in absurd (omega arith)
+turned_away honest opening N p Stopped learnt is = tt

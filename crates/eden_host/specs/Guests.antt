@@ -1,5 +1,5 @@
 -- What a session is told of a guest's requests.
-use Rattle.std.specs.Prelude.{◌≡◌, ◌+◌, ◌-◌, List, length, slice_get, Some, Result, Ok, Err}
+use Rattle.std.specs.Prelude.{◌≡◌, ◌+◌, ◌≤◌, ℕ, List, Result, Ok, Err}
 use Rattle.std.specs.List.{AllByRecursion}
 use Rattle.eden_model.specs.declared.fault.CallFault.{CallFault}
 use Rattle.eden_model.specs.declared.fault.CallFault.TheVariants.{Start, Foreign, Stopped}
@@ -8,12 +8,13 @@ use Rattle.eden_model.specs.declared.reply.Reply.{Reply}
 use Rattle.eden_model.specs.Numbers.{Numbers}
 use Rattle.eden_model.specs.Trees.{Tree}
 use Rattle.eden_shared.specs.declared.account.Told.{Told}
-use Rattle.eden_shared.specs.Calls.{Grows, IsRefusal, last_told}
+use Rattle.eden_shared.specs.Accounts.{told}
+use Rattle.eden_shared.specs.Calls.{Grows, IsRefusal}
 use Rattle.eden_shared.specs.Passes.{Carried}
 
 -- the pass waits for no number but those that it was told
-abbrev pub HasLearntNothing : Carried → Type 0
-HasLearntNothing p = p.floor ≡ last_told p.told + 1
+pub record HasLearntNothing (p : Carried) : Type 0 where
+  pub awaits : (most : ℕ) → AllByRecursion (λ (t : Told). t.number ≤ most) p.told → p.floor ≤ most + 1
 
 -- .. and so each of these
 pub record HaveLearntNothing (passes : List Carried) : Type 0 where
@@ -26,10 +27,6 @@ pub record Visit : Type 0 where
   -- the last reply
   pub reply : Reply
 
--- the reply that was told last
-abbrev pub last_reply : List Told → Reply → Type 0
-last_reply ts r = (t : Told) × (slice_get ts (length ts - 1) ≡ Some t) × (r ≡ t.reply)
-
 module _ (honest : Type 0) (opening : Tree) (numbers : Numbers) where
   -- why a request isn't taken: the history is full, there is no memory, or the mount was stopped; the guest is never foreign
   abbrev pub IsTurnedAway : Carried → CallFault → Type 0
@@ -39,7 +36,7 @@ module _ (honest : Type 0) (opening : Tree) (numbers : Numbers) where
 
   -- the pass was told of one call more, and its reply is the answer; or the request wasn't taken, and nothing changed
   abbrev pub GuestAnswers : Carried → Request → Result Reply CallFault → Carried → Type 0
-  GuestAnswers old q (Ok reply) new = Grows honest opening numbers old q new × last_reply new.told reply
+  GuestAnswers old q (Ok reply) new = (n : ℕ) × Grows honest opening numbers old (told n q reply) new
   GuestAnswers old q (Err fault) new = IsTurnedAway old fault × (new ≡ old)
 
   -- .. by what the guest's pass carries

@@ -1,5 +1,6 @@
 ghost use Rattle.std.specs.Prelude.{◌≡◌, MatchResult};
-ghost use Rattle.eden_shared.specs.Calls.{Gives, IsLawful};
+ghost use Rattle.eden_shared.specs.Accounts.{told};
+ghost use Rattle.eden_shared.specs.Calls.{Grows, IsLawful};
 
 use eden_history::History;
 use eden_model::{CallFault, Path, Request, World};
@@ -19,7 +20,8 @@ pub trait Served<W: World, J: Naming> {
         pass: &mut Pass<J>,
         request: Request,
     ) -> Result<Answered, CallFault>
-        ensures { MatchResult result (λ a. Gives W.honest W.opening W.numbers pass.old request a pass.new)
+        ensures { MatchResult result
+            (λ a. Grows W.honest W.opening W.numbers pass.old (told a.number request a.reply) pass.new)
             (λ fault. IsLawful W.honest W.opening W.numbers pass.old fault × (pass.new ≡ pass.old)) };
 
     /// Lets go of the loaded directories at and below the path that weren't used for so many turns. How many went.

@@ -1,8 +1,9 @@
 -- The accounts of all passes, as seats are taken and the history grows.
-use Rattle.std.proofs.Common.{◌≡◌, ◌≢◌, ℕ, zero, suc, ◌+◌, ◌<◌, ◌==◌, Bool, true, false, List, [], ◌∷◌, ◌++◌, length, slice_set, Some, None, if◌then◌else◌, refl, sym, ap, ◌∙◌, arith, ⊎_elim}
+use Rattle.std.proofs.Common.{◌≡◌, ◌≢◌, ℕ, zero, suc, ◌+◌, ◌<◌, ◌≤◌, ◌==◌, Bool, true, false, List, [], ◌∷◌, ◌++◌, length, slice_set, Some, None, if◌then◌else◌, refl, sym, ap, ◌∙◌, arith, ⊎_elim}
 use Rattle.std.proofs.lemmas.Bool.{eq-eqb}
 use Rattle.std.proofs.lemmas.Bool.Decides.{eqb_tells}
 use Rattle.std.specs.Prelude.{slice_get, slice_index_or}
+use Rattle.std.specs.List.{AllByRecursion}
 use Rattle.std.specs.declared.option.Option.{Option}
 use Rattle.eden_model.specs.declared.entry.Entry.{Entry}
 use Rattle.eden_model.specs.declared.request.Request.{Request}
@@ -13,7 +14,6 @@ use Rattle.eden_shared.specs.declared.account.Account.{Account}
 use Rattle.eden_shared.specs.declared.account.Terms.{Terms}
 use Rattle.eden_shared.specs.declared.account.Told.{Told}
 use Rattle.eden_shared.specs.Accounts.{told, account, told_by, accounts}
-use Rattle.eden_shared.specs.Calls.{last_told}
 
 -- ---- one pass
 
@@ -37,19 +37,14 @@ told_others : (p c n : ℕ) (h : List Entry) (q : Request) (r : Reply) → (p ==
 told_others p c n [] q r other = ap (λ b. if b then told n q r ∷ [] else []) other
 told_others p c n (e ∷ h) q r other = ap (λ ts. if e.pass == c then told n e.request e.reply ∷ ts else ts) (told_others p c (suc n) h q r other)
 
-last_more : (t : Told) (ts : List Told) (m : ℕ) → t.number < m → last_told ts < m → last_told (t ∷ ts) < m
-last_more t [] m a b = a
-last_more t (u ∷ ts) m a b = b
-
--- what was told last is in the history
-pub told_last : (c n : ℕ) (h : List Entry) → 0 < n → last_told (told_by c n h) < n + length h
-told_last c n [] some = omega arith
-told_last c n (e ∷ h) some =
-    let rest : last_told (told_by c (suc n) h) < n + length (e ∷ h) = (let r = told_last c (suc n) h (omega arith) in omega arith) in
-    by_cases (e.pass == c) rest
+-- what was told is in the history
+pub told_within : (c n m : ℕ) (h : List Entry) → n + length h ≤ suc m → AllByRecursion (λ (t : Told). t.number ≤ m) (told_by c n h)
+told_within c n m [] within = tt
+told_within c n m (e ∷ h) within = by_cases (e.pass == c) (told_within c (suc n) m h (omega arith))
   where
-    by_cases : (b : Bool) → last_told (told_by c (suc n) h) < n + length (e ∷ h) → last_told (if b then told n e.request e.reply ∷ told_by c (suc n) h else told_by c (suc n) h) < n + length (e ∷ h)
-    by_cases true rest = last_more (told n e.request e.reply) (told_by c (suc n) h) (n + length (e ∷ h)) (omega arith) rest
+    by_cases : (b : Bool) → AllByRecursion (λ (t : Told). t.number ≤ m) (told_by c (suc n) h)
+        → AllByRecursion (λ (t : Told). t.number ≤ m) (if b then told n e.request e.reply ∷ told_by c (suc n) h else told_by c (suc n) h)
+    by_cases true rest = (omega arith, rest)
     by_cases false rest = rest
 
 -- ---- all passes

@@ -1,5 +1,5 @@
 -- What lies under the lock, as a mount steps on: the accounts stay those of its seats and its history.
-use Rattle.std.proofs.Common.{Bool, ◌≡◌, ℕ, zero, suc, ◌+◌, ◌-◌, ◌<◌, ◌≤◌, cond, List, [], ◌∷◌, ◌++◌, length, slice_set, Option, Some, None, refl, sym, ap, ◌∙◌, arith}
+use Rattle.std.proofs.Common.{Bool, ◌≡◌, ℕ, zero, suc, ◌+◌, ◌-◌, ◌<◌, ◌≤◌, cond, List, [], ◌∷◌, ◌++◌, length, slice_set, Option, Some, None, inl, inr, refl, sym, ap, ◌∙◌, arith}
 use Rattle.std.specs.Prelude.{slice_get}
 use Rattle.std.specs.Option.{is_some}
 use Rattle.std.proofs.lemmas.List.Sums.{sum_by-cons, count_by-le-length}
@@ -75,22 +75,21 @@ module _ {T : Type 0} (m : Core T) (vs : List Account) (t : Terms) (n : ℕ) (v 
     refusal free Busy busy =
         let nobody = seat_there m.seats (n - 1) v.pending known.0 ∙ free in
         absurd (cc (sym nobody ∙ busy.2.1))
-    refusal free (HistoryFull limit) (none, full, is) = (
-      is ∙ terms_limit,
+    refusal free (HistoryFull limit) (none, full, is) = inl (
+      ap HistoryFull (is ∙ terms_limit),
       record {
         history = m.history;
         legal = mount.legal;
         told = known.1;
-        pending = pending_count m.seats;
-        others = (let few = one_is_free m.seats (n - 1) (known.0 ∙ ap Some free) in
-            let seats = mount.seats in let passes = meets.passes in let terms = ap (λ (x : Terms). x.passes) known.2 in omega (arith, few, seats, passes, terms));
-        full = (let room = mount.room in omega (arith, room, full, terms_limit));
+        full = (let few = one_is_free m.seats (n - 1) (known.0 ∙ ap Some free) in
+            let seats = mount.seats in let passes = meets.passes in let terms = ap (λ (x : Terms). x.passes) known.2 in let room = mount.room in
+            (omega (arith, room, full, terms_limit), omega (arith, few, seats, passes, terms, room, full, terms_limit)));
       },
     )
       where
         terms_limit : m.limit ≡ v.terms.limit
         terms_limit = meets.limit ∙ sym (ap (λ (x : Terms). x.limit) known.2)
-    refusal free Memory want = tt
+    refusal free Memory want = inr refl
 
   -- a request is started
   pub started : (s : Pending) (q : Request) (m' : Core T) (vs' : List Account) → s.request ≡ q → s.since ≡ length m.history → m' ≡ after_start n q m

@@ -4,4 +4,3 @@ pub mod Accounting
 pub mod Opened
 pub mod Holding
 pub mod Numbered
-pub mod Entries

@@ -12,8 +12,7 @@ use Rattle.eden_mount.specs.Core.{Core}
 use Rattle.eden_mount.specs.Kept.{IsMount}
 use Rattle.eden_shared.specs.declared.lanes.Lane.{Lane}
 use Rattle.eden_shared.specs.Guarded.{IsTied}
-use Rattle.eden_shared.specs.Passes.{Carried, Has, AreEach, IsKnown, Agrees}
-use Rattle.eden_shared.proofs.Entries.{knows_own}
+use Rattle.eden_shared.specs.Passes.{Carried, AreEach, IsKnown, Agrees}
 use Rattle.eden_shared.proofs.Accounting.{length_accounts, seat_there}
 
 pub each_more : (P : ℕ → Type 0) (n : ℕ) → ((c : ℕ) → 1 ≤ c → c ≤ n → P c) → P (n + 1) → (c : ℕ) → 1 ≤ c → c ≤ n + 1 → P c
@@ -31,17 +30,17 @@ as_many A m lanes names tied seats =
 
 -- where each pass is known, nothing is pending
 pub all_agree : {T : Type 0} (A : Table T) (honest : Type 0) (opening : Tree) (N : Numbers) (m : Core T) (passes : List Carried) → IsMount A honest opening N m → AreEach passes m.queue.passes
-    → ((p : Carried) → Has passes p → IsKnown A m p) → Agrees A m passes
+    → ((k : ℕ) (p : Carried) → slice_get passes k ≡ Some p → IsKnown A m p) → Agrees A m passes
 all_agree A honest opening N m passes mount are known = record {
   told = record {
     each = are;
-    told = λ p has. knows_own m.history p (known p has).told;
-    entries = λ n e is. (let pass = mount.entries (n - 1) e is.1 in are.each e.pass pass.0 pass.1);
+    told = λ k p at. (known k p at).told;
+    entries = mount.entries;
   };
   rest = λ c s pends.
       let within = seat_within m.seats (c - 1) s pends.1 in
       let one = are.each c pends.0 (let some = pends.0 in let seats = mount.seats in omega arith) in
-      let free = ap (λ n. slice_get m.seats (n - 1)) (sym one.2) ∙ (known one.0 one.1).free in
+      let free = ap (λ n. slice_get m.seats (n - 1)) (sym one.3) ∙ (known one.1 one.0 one.2).free in
       absurd (cc (sym (seat_there m.seats (c - 1) None free) ∙ pends.1));
-  kept = λ p has. (known p has).kept;
+  kept = λ k p at. (known k p at).kept;
 }

@@ -16,12 +16,9 @@ pub record IsUnused {T : Type 0} (m : Core T) : Type 0 where
   pub rest : (c : ℕ) (s : Pending) → ¬ Pends c s m
   pub quiet : IsQuiet m
 
-abbrev pub far_names : List End → List ℕ
-far_names ends = map (λ (e : End). e.far.name) ends
-
 -- both ends of n ties
 pub record AreTied (lanes : List Lane) (ends : List End) (n : ℕ) : Type 0 where
-  pub names : far_names ends ≡ names_of lanes
+  pub names : map (λ (e : End). e.far.name) ends ≡ names_of lanes
   pub count : length lanes ≡ n
 
 -- the first n hold that a mount was opened so, and that their passes were told nothing

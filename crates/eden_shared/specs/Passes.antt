@@ -1,7 +1,6 @@
 -- What a pass carries.
-use Rattle.std.specs.Prelude.{◌≡◌, ◌↔◌, ℕ, zero, suc, ◌+◌, ◌-◌, ◌≤◌, List, [], ◌∷◌, length, slice_get, Some, None}
+use Rattle.std.specs.Prelude.{◌≡◌, ℕ, zero, suc, ◌+◌, ◌-◌, ◌≤◌, List, [], ◌∷◌, length, slice_get, Some, None}
 use Rattle.eden_model.specs.declared.entry.Entry.{Entry}
-use Rattle.eden_model.specs.Histories.{entry}
 use Rattle.eden_mount.specs.declared.seats.Pending.{Pending}
 use Rattle.eden_mount.specs.Tables.{Table}
 use Rattle.eden_mount.specs.Core.{Core, Pends}
@@ -38,13 +37,9 @@ newcomers terms c (suc n) = carried terms c 1 [] ∷ newcomers terms (suc c) n
 abbrev pub AreNewcomers : List Carried → ℕ → Type 0
 AreNewcomers passes n = (terms : Terms) × (passes ≡ newcomers terms 1 n)
 
--- one of them
-abbrev pub Has : List Carried → Carried → Type 0
-Has passes p = (k : ℕ) × (slice_get passes k ≡ Some p)
-
--- .. has the number
+-- one of the passes has the number
 abbrev pub HasNumber : List Carried → ℕ → Type 0
-HasNumber passes c = (p : Carried) × Has passes p × (p.number ≡ c)
+HasNumber passes c = (p : Carried) × (k : ℕ) × (slice_get passes k ≡ Some p) × (p.number ≡ c)
 
 -- there are n, one of each number from 1 on
 pub record AreEach (passes : List Carried) (n : ℕ) : Type 0 where
@@ -57,27 +52,14 @@ pub record IsKnown {T : Type 0} (A : Table T) (m : Core T) (p : Carried) : Type 
   pub told : p.told ≡ told_by p.number 1 m.history
   pub kept : Meets A p.terms m
 
--- entry n of a history
-abbrev pub IsEntry : List Entry → ℕ → Entry → Type 0
-IsEntry history n e = (1 ≤ n) × (slice_get history (n - 1) ≡ Some e)
-
--- the pass was told this
-abbrev pub Heard : Carried → Told → Type 0
-Heard p t = (k : ℕ) × (slice_get p.told k ≡ Some t)
-
--- the pass was told of a call exactly where that entry is its own, with that request and that reply
-abbrev pub KnowsItsOwn : List Entry → Carried → Type 0
-KnowsItsOwn history p = (t : Told) → Heard p t ↔ IsEntry history t.number (entry p.number t.request t.reply)
-
--- Of so many passes there is one of each number, each was told of its entries and of nothing else, and no entry is anybody
--- else's.
+-- There is one pass of each number from 1 to n, each was told its entries of the history and nothing else, and all are theirs.
 pub record AreTold (history : List Entry) (n : ℕ) (passes : List Carried) : Type 0 where
   pub each : AreEach passes n
-  pub told : (p : Carried) → Has passes p → KnowsItsOwn history p
-  pub entries : (k : ℕ) (e : Entry) → IsEntry history k e → HasNumber passes e.pass
+  pub told : (k : ℕ) (p : Carried) → slice_get passes k ≡ Some p → p.told ≡ told_by p.number 1 history
+  pub entries : (k : ℕ) (e : Entry) → slice_get history k ≡ Some e → (1 ≤ e.pass) × (e.pass ≤ n)
 
 -- The passes were told what the history says, nothing is pending, and the mount keeps what it was opened with.
 pub record Agrees {T : Type 0} (A : Table T) (m : Core T) (passes : List Carried) : Type 0 where
   pub told : AreTold m.history m.queue.passes passes
   pub rest : (c : ℕ) (s : Pending) → ¬ Pends c s m
-  pub kept : (p : Carried) → Has passes p → Meets A p.terms m
+  pub kept : (k : ℕ) (p : Carried) → slice_get passes k ≡ Some p → Meets A p.terms m

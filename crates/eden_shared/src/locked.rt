@@ -1,6 +1,6 @@
 // What lies under the lock: the mount, whether it was stopped, and one end of each pass's tie.
-ghost use Rattle.std.specs.Prelude.{◌≡◌, ◌+◌, ◌≤◌, ℕ, length, Some, None, IfOk, OnOk, OnErr, IfErr, IfSome, IfNone};
-ghost use Rattle.std.specs.Prelude.{true, false};
+ghost use Rattle.std.specs.Prelude.{◌≡◌, ◌+◌, ◌≤◌, ℕ, length, slice_get, Some, None, true, false};
+ghost use Rattle.std.specs.Prelude.{IfOk, OnOk, OnErr, IfErr, IfSome, IfNone};
 ghost use Rattle.eden_object.specs.Objects.{IsHonest};
 ghost use Rattle.eden_mount.specs.Core.{Pends};
 ghost use Rattle.eden_mount.specs.Steps.{IsRefused};
@@ -11,7 +11,7 @@ ghost use Rattle.eden_shared.specs.Calls.{AnswersTo, IsHeldBack, IsLawful, IsRef
 ghost use Rattle.eden_shared.specs.Lanes.{HasName};
 ghost use Rattle.eden_shared.specs.Fetched.{ComesTo};
 ghost use Rattle.eden_shared.specs.Guarded.{guarded};
-ghost use Rattle.eden_shared.specs.Passes.{Agrees, AreEach, Carried, Has, IsKnown, carried};
+ghost use Rattle.eden_shared.specs.Passes.{Agrees, AreEach, Carried, IsKnown, carried};
 
 use crate::account::{Account, Naming};
 use crate::ends::Far;
@@ -226,7 +226,8 @@ impl<W: World, T: Attempts<W> + Drop, A: Allocator, J: Naming, H: History> Locke
     fn check_all(&mut self, passes: &mut Vec<Pass<J>>)
         ensures lock { self.new ≡ self.old }
         ensures passes { passes.new.items ≡ passes.old.items }
-        ensures known { (p : Carried) → Has passes.old.items p → IsKnown T.table self.old.mount p }
+        ensures known { (k : ℕ) (p : Carried) → slice_get passes.old.items k ≡ Some p
+            → IsKnown T.table self.old.mount p }
     {
         for i in 0..passes.len() {
             self.check(&mut passes[i]);

@@ -1,6 +1,7 @@
-ghost use Rattle.std.specs.Prelude.{◌≡◌, ◌≤◌, length, IfOk, IfErr};
+ghost use Rattle.std.specs.Prelude.{◌≡◌, ◌≤◌, length, map, IfOk, IfErr};
+ghost use Rattle.eden_shared.specs.declared.opening.End as declared;
 ghost use Rattle.eden_shared.specs.Lanes.{names_of};
-ghost use Rattle.eden_shared.specs.Opening.{AreOpened, AreTied, IsUnused, far_names};
+ghost use Rattle.eden_shared.specs.Opening.{AreOpened, AreTied, IsUnused};
 ghost use Rattle.eden_shared.specs.Passes.{newcomers};
 ghost use Rattle.eden_shared.specs.Terms.{terms_of};
 
@@ -55,7 +56,7 @@ fn hand_out<W: World, T: Attempts<W> + Drop, A: Allocator, J: Naming, H: History
     lanes: &mut Vec<Lane>,
     ends: Vec<End>,
 ) -> Result<Vec<Pass<J>>, AllocError>
-    requires names { far_names ends.items ≡ J.names }
+    requires names { map (λ (e : declared.End). e.far.name) ends.items ≡ J.names }
     requires tied { names_of lanes.old.items ≡ J.names }
     requires few { length J.names ≤ 64 }
     ensures names { names_of lanes.new.items ≡ names_of lanes.old.items }

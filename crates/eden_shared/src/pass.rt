@@ -1,5 +1,6 @@
 ghost use Rattle.std.specs.Prelude.{◌≡◌, ◌+◌, min, IfOk, IfErr, OnErr};
-ghost use Rattle.eden_shared.specs.Calls.{Gives, IsLawful};
+ghost use Rattle.eden_shared.specs.Accounts.{told};
+ghost use Rattle.eden_shared.specs.Calls.{Grows, IsLawful};
 ghost use Rattle.eden_shared.specs.Passes.{carried, greater, Rises};
 
 use crate::account::{Account, Naming};
@@ -83,7 +84,8 @@ impl<J: Naming> Pass<J> {
         rt: &R,
         request: Request,
     ) -> Result<Answered, CallFault>
-        ensures ok { IfOk result (λ a. Gives W.honest W.opening W.numbers self.old request a self.new) }
+        ensures ok { IfOk result (λ a. Grows W.honest W.opening W.numbers self.old
+            (told a.number request a.reply) self.new) }
         ensures err { OnErr result (self.new ≡ self.old) }
         ensures why { IfErr result (IsLawful W.honest W.opening W.numbers self.old) }
     {
@@ -108,7 +110,8 @@ impl<J: Naming> Pass<J> {
         source: &mut S,
         request: Request,
     ) -> Result<Answered, CallFault>
-        ensures ok { IfOk result (λ a. Gives W.honest W.opening W.numbers self.old request a self.new) }
+        ensures ok { IfOk result (λ a. Grows W.honest W.opening W.numbers self.old
+            (told a.number request a.reply) self.new) }
         ensures err { OnErr result (self.new ≡ self.old) }
         ensures why { IfErr result (IsLawful W.honest W.opening W.numbers self.old) }
     {

@@ -1,8 +1,8 @@
 ghost use Rattle.std.specs.Prelude.{◌≡◌, ◌+◌, ◌<◌, ◌-◌, length, slice_get, Some, vec_capacity, vec_len};
-ghost use Rattle.std.specs.Prelude.{IfOk, IfErr, IsOk, OnOk, OnErr, MatchResult};
+ghost use Rattle.std.specs.Prelude.{IfOk, IfErr, IfSome, IsOk, OnOk, OnErr, MatchResult};
 ghost use Rattle.std.specs.Borrow.{sem};
 ghost use Rattle.std.specs.Io.BufRead.{Rests};
-ghost use Rattle.eden_shared.specs.Calls.{Grows, IsLawful, Lends};
+ghost use Rattle.eden_shared.specs.Calls.{Grows, IsLawful};
 ghost use Rattle.eden_shared.specs.contracts.recording.Recording.{the_row};
 ghost use Rattle.eden_shared.specs.Passes.{carried, greater, Rises};
 
@@ -115,7 +115,9 @@ impl<J: Naming> Recording<J> {
         rt: &R,
         request: Request,
     ) -> Result<(), CallFault>
-        ensures ok { OnOk result (Grows W.honest W.opening W.numbers self.old request self.new) }
+        ensures some { OnOk result (0 < length self.new.told) }
+        ensures ok { OnOk result (IfSome (slice_get self.new.told (length self.new.told - 1))
+            (λ t. (t.request ≡ request) × Grows W.honest W.opening W.numbers self.old t self.new)) }
         ensures err { OnErr result (self.new ≡ self.old) }
         ensures why { IfErr result (IsLawful W.honest W.opening W.numbers self.old) }
     {
@@ -151,7 +153,8 @@ impl<J: Naming> Recording<J> {
         request: Request,
     ) -> Result<&Told, CallFault>
         ensures* after { sem 𝓛 (Rests (the_row J.row J.Naming) self.entry
-            (λ new. MatchResult result (λ t. Lends W.honest W.opening W.numbers self.old request t.now new)
+            (λ new. MatchResult result
+            (λ t. (t.now.request ≡ request) × Grows W.honest W.opening W.numbers self.old t.now new)
             (λ fault. new ≡ self.old))) }
         ensures why { IfErr result (IsLawful W.honest W.opening W.numbers self.old) }
     {

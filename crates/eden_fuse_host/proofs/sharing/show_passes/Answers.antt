@@ -29,14 +29,14 @@ returns g c = λ terms passes.
     let first = agrees.told.each.each 1 (omega arith) c.holds.ensures.queue.some_passes.0 in
     let seats = served_seats g.V.Receiver g.O.Sender Comes g.W.World.honest g.W.World.opening g.W.World.numbers c.args.manner (newcomers terms 1 terms.passes) left
     c.show_by-passes.result.1 c.show_by-passes.result.2 served in
-    let same = terms_stay terms (newcomers terms 1 terms.passes) left first.1.0 first.0 seats (newcomers_terms terms 1 terms.passes) first.1.1 in
+    let same = terms_stay terms (newcomers terms 1 terms.passes) left first.1 first.0 seats (newcomers_terms terms 1 terms.passes) first.2 in
     record {
       ended = c.in-Ok.mount;
       is = record {
         left = left;
         served = served;
         agrees = agrees;
-        kept = subst (λ (t : Terms). Meets A t c.in-Ok.mount) same (agrees.kept first.0 first.1);
+        kept = subst (λ (t : Terms). Meets A t c.in-Ok.mount) same (agrees.kept first.1 first.0 first.2);
         legal = c.holds.ensures.legal;
         shown = c.holds.ensures.shown;
         backed = c.holds.ensures.backed;

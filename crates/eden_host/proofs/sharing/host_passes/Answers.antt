@@ -24,14 +24,14 @@ returns g c = λ terms passes.
     let agrees = subst (λ r. IfOk r (λ m. Agrees A m told.0)) c.in-Ok.is told.2 in
     let first = agrees.told.each.each 1 (omega arith) c.holds.ensures.queue.some_passes.0 in
     let same = terms_stay g.I.Read g.O.Write g.W.World.honest g.W.World.opening g.W.World.numbers terms (newcomers terms 1 terms.passes) told.0 c.host-hosted.result.outcome hosted
-    (newcomers_terms terms 1 terms.passes) first.1.0 first.0 first.1.1 in
+    (newcomers_terms terms 1 terms.passes) first.1 first.0 first.2 in
     record {
       ended = c.in-Ok.mount;
       is = record {
         left = told.0;
         hosted = hosted;
         agrees = agrees;
-        kept = subst (λ (t : Terms). Meets A t c.in-Ok.mount) same (agrees.kept first.0 first.1);
+        kept = subst (λ (t : Terms). Meets A t c.in-Ok.mount) same (agrees.kept first.1 first.0 first.2);
         legal = c.holds.ensures.legal;
         shown = c.holds.ensures.shown;
         backed = c.holds.ensures.backed;

@@ -1,12 +1,11 @@
 use Rattle.std.specs.Vec.{vec_len}
 use Rattle.std.specs.Vec.Iter.{into_iter_items}
-use Rattle.std.proofs.Common.{◌≡◌, ℕ, suc, ◌+◌, ◌-◌, [], ◌∷◌, ◌++◌, length, slice_set, Some, None, refl, sym, ap, ◌∙◌, subst, arith, append_assoc, length-append}
+use Rattle.std.proofs.Common.{◌≡◌, ℕ, suc, ◌+◌, ◌-◌, [], ◌∷◌, ◌++◌, length, map, slice_set, Some, None, refl, sym, ap, ◌∙◌, subst, arith, append_assoc, length-append}
 use Rattle.std.specs.Prelude.{slice_get}
 use Rattle.eden_shared.specs.declared.account.Account.{Account}
 use Rattle.eden_shared.specs.declared.opening.End.{End}
 use Rattle.eden_shared.specs.Accounts.{account}
 use Rattle.eden_shared.specs.Lanes.{names_of, values_of}
-use Rattle.eden_shared.specs.Opening.{far_names}
 use Rattle.eden_shared.specs.Passes.{carried, newcomers, Rises}
 use Rattle.eden_shared.specs.Terms.{terms_of}
 use Rattle.eden_shared.proofs.Opened.{mapped_between, newcomers_count, newcomers_push, one_more}
@@ -17,7 +16,7 @@ change-requires g c =
     let at = c.loop-end in let e = c.in-Some.end in let rest = into_iter_items c.next.new.self in let n = length at.yielded in
     let all : c.args.ends.items ≡ at.yielded ++ e ∷ rest = at.invariant.ends ∙ ap (λ l. at.yielded ++ l) c.in-Some.ensures.steps.0 in
     let place : c.len-place.result ≡ n = (let l = c.len-place.ensures in let m = at.invariant.len in omega arith) in
-    ap (slice_get (names_of at.lanes.items)) place ∙ ap (λ l. slice_get l n) (at.invariant.names ∙ c.requires.tied ∙ sym c.requires.names ∙ ap far_names all)
+    ap (slice_get (names_of at.lanes.items)) place ∙ ap (λ l. slice_get l n) (at.invariant.names ∙ c.requires.tied ∙ sym c.requires.names ∙ ap (map (λ (x : End). x.far.name)) all)
     ∙ mapped_between (λ (x : End). x.far.name) at.yielded rest e
 
 pub invariant_of-push : goal.invariant_of-push
@@ -25,7 +24,8 @@ invariant_of-push g c =
     let at = c.loop-end in let e = c.in-Some.end in let rest = into_iter_items c.next.new.self in let n = length at.yielded in
     let all : c.args.ends.items ≡ at.yielded ++ e ∷ rest = at.invariant.ends ∙ ap (λ l. at.yielded ++ l) c.in-Some.ensures.steps.0 in
     let place : c.len-place.result + 1 - 1 ≡ n = (let l = c.len-place.ensures in let m = at.invariant.len in omega arith) in
-    let name = ap (slice_get g.J.Naming.names) place ∙ ap (λ l. slice_get l n) (sym c.requires.names ∙ ap far_names all) ∙ mapped_between (λ (x : End). x.far.name) at.yielded rest e
+    let name = ap (slice_get g.J.Naming.names) place ∙ ap (λ l. slice_get l n) (sym c.requires.names ∙ ap (map (λ (x : End). x.far.name)) all)
+    ∙ mapped_between (λ (x : End). x.far.name) at.yielded rest e
     ∙ ap Some (sym c.change.ensures.end.0) in
     let value = c.change.ensures.end.1 in (
       (omega arith, name),

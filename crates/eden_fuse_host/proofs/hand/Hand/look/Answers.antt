@@ -7,6 +7,6 @@ pub returns-clause-met : goal.returns-clause-met
 returns-clause-met g c = λ is. elim c.match-ask.branch [
   | in-Err w ↦ absurd (let no : false ≡ true = sym w.result-is ∙ is in cc no)
   | in-Ok+in-Fault w ↦
-      rw (sym c.self.view_is) (met_once g.W.World.honest g.W.World.opening g.W.World.numbers _ _ _ _ w.in-Ok.ensures.0 (sym w.in-Ok.ensures.2 ∙ w.in-Fault.is))
+      rw (sym c.self.view_is) (met_once g.W.World.honest g.W.World.opening g.W.World.numbers _ _ _ _ _ _ w.in-Ok.ensures w.in-Fault.is)
   | in-Ok+in_default w ↦ absurd (let no : false ≡ true = sym w.result-is ∙ is in cc no)
 ]

@@ -20,7 +20,7 @@ loop-i-preserved g c =
     )
 
 pub returns-clause-known : goal.returns-clause-known
-returns-clause-known g c = λ p has.
-    let within = slice_get_within c.args.passes.now.items has.0 p has.1 in
+returns-clause-known g c = λ k p at.
+    let within = slice_get_within c.args.passes.now.items k p at in
     let all : length c.args.passes.now.items ≤ c.loop-i.i = search rules in
-    c.loop-i.invariant.2 has.0 (omega arith) p has.1
+    c.loop-i.invariant.2 k (omega arith) p at

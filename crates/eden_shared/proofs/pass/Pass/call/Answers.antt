@@ -3,7 +3,7 @@ use Rattle.std.specs.Prelude.{IfSome}
 use Rattle.eden_shared.specs.declared.account.Account.{Account}
 use Rattle.eden_shared.specs.Accounts.{told, account, pended}
 use Rattle.eden_shared.specs.Answers.{after_answer}
-use Rattle.eden_shared.specs.Calls.{AnswersTo, Grows, Gives}
+use Rattle.eden_shared.specs.Calls.{AnswersTo, Grows}
 use Rattle.eden_shared.specs.Passes.{Carried, carried, Rises}
 use Rattle.eden_shared.proofs.Rising.{rises_push}
 use Rattle.eden_shared.proofs.pass.Pass.call.Goals as goal
@@ -30,11 +30,10 @@ returns-clause-ok g c =
     let answers : AnswersTo g.W.World.honest g.W.World.opening g.W.World.numbers here.number a p = subst
     (λ (x : Account). IfSome x.pending (AnswersTo g.W.World.honest g.W.World.opening g.W.World.numbers here.number a)) began.pending c.wait_for-answer.ensures.answers in
     let after : Carried = carried c.wait_for-answer.new.end.value.terms here.number (a.number + 1) c.wait_for-answer.new.end.value.told in
-    let grows : Grows g.W.World.honest g.W.World.opening g.W.World.numbers (carried here.end.value.terms here.number (here.known + 1) here.end.value.told) p.request after = record {
-      number = a.number;
-      reply = a.reply;
+    let grows : Grows g.W.World.honest g.W.World.opening g.W.World.numbers (carried here.end.value.terms here.number (here.known + 1) here.end.value.told)
+    (told a.number p.request a.reply) after = record {
       later = let from = began.known in let behind = answers.1 in omega arith;
       stands = answers.0;
       is = ap (λ (x : Account). carried x.terms here.number (a.number + 1) x.told) says;
     } in
-    subst (λ x. Gives g.W.World.honest g.W.World.opening g.W.World.numbers x c.args.request a after) c.self.view_is (grows, refl, refl)
+    subst (λ x. Grows g.W.World.honest g.W.World.opening g.W.World.numbers x (told a.number c.args.request a.reply) after) c.self.view_is grows
