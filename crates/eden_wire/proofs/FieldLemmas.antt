@@ -2,18 +2,21 @@
 use Rattle.std.proofs.Common.{◌≡◌, ◌≢◌, ℕ, ◌<◌, ◌^◌, List, [], ◌∷◌, ◌++◌, append-nil, length, Bool, true, false, cond, Option, Some, None, codes, decimal, get_or, take, drop, ◌-◌, ◌≤◌, MatchOption}
 use Rattle.std.proofs.Common.{Result, Ok, Err, IfOk, sym, ap, ◌∙◌, subst, refl, arith}
 use Rattle.std.proofs.lemmas.Bool.{false≢true}
-use Rattle.std.specs.List.{flat_map}
+use Rattle.std.specs.Prelude.{filter_map}
+use Rattle.std.specs.List.{flat_map, slice_get, cons_option}
 use Rattle.std.proofs.lemmas.List.{take_all}
 use Rattle.std.specs.Option.{option_or}
 use Rattle.std.specs.Str.{bytes_eq}
+use Rattle.eden_model.specs.Names.{name_refusal}
+use Rattle.eden_model.specs.Paths.{path_refusal}
 use Rattle.eden_model.specs.declared.errno.Errno.{Errno}
 use Rattle.eden_wire.specs.Names.{is_plain, name_text, SpellsName, AreBytes}
-use Rattle.eden_wire.specs.Fields.{Field, field_text, IsField, field_refusal, first_refusal}
+use Rattle.eden_wire.specs.Fields.{Field, field_text, IsField, refusals}
 use Rattle.eden_wire.specs.Fields.Field.{of_path, of_number, of_bit, of_data, of_after}
 use Rattle.eden_wire.specs.Splits.{Lacks, IsCutAt, IsPart, BeginsWith}
 use Rattle.eden_wire.specs.Scans.{ScansName, ScansPath, ScansAfter, SpellsNoName, SpellsNoAfter, SpellsPath, SpellsAfter, SpellsData, SpellsNo, Scans, SpellNoFields, ScansFields, NextIs, Takes}
 use Rattle.eden_wire.specs.Scans.{LastIs}
-use Rattle.eden_wire.specs.Sorts.{component_text, path_text, bit_text, hex_text, after_text, fields_text, IsAfter, sort_of, AreFields}
+use Rattle.eden_wire.specs.Sorts.{component_text, path_text, bit_text, hex_text, after_text, fields_text, IsAfter, sort_of, AreFields, field_refusal, first_refusal}
 use Rattle.eden_wire.specs.declared.word.Sort.{Sort}
 use Rattle.eden_wire.specs.declared.word.Sort.TheVariants as sort
 use Rattle.eden_wire.proofs.NumberLemmas.{digit_range, spelled_value}
@@ -120,6 +123,42 @@ first_field s sorts (f ∷ fields) text part more cut h e =
     let both = first_part 32 part (field_text f) more (fields_text fields) cut.plain (field_lacks f h.1) cut.cut (fields_cut fields) inside in
     record { field = f; later = fields; whole = refl; is_sort = h.0; good = h.1; fit = h.2; spelled = both.0; rest = both.1 }
 
+-- ---- the first refusal
+
+or_none : (x : Option Errno) → option_or x None ≡ x
+or_none None = refl
+or_none (Some e) = refl
+
+first-append : (xs ys : List Errno) → slice_get (xs ++ ys) 0 ≡ option_or (slice_get xs 0) (slice_get ys 0)
+first-append [] ys = refl
+first-append (x ∷ xs) ys = refl
+
+first_of : {A : Type 0} (why : A → Option Errno) (xs : List A) → slice_get (filter_map why xs) 0 ≡ first_refusal why xs
+first_of why [] = refl
+first_of why (x ∷ xs) = first_more (why x) (filter_map why xs) ∙ ap (option_or (why x)) (first_of why xs)
+  where
+    first_more : (r : Option Errno) (later : List Errno) → slice_get (cons_option r later) 0 ≡ option_or r (slice_get later 0)
+    first_more None later = refl
+    first_more (Some e) later = refl
+
+field_first : (f : Field) → slice_get (refusals f) 0 ≡ field_refusal f
+field_first (of_path path) =
+    first-append (filter_map name_refusal path) (filter_map path_refusal (path ∷ []))
+    ∙ ap (λ r. option_or r (slice_get (filter_map path_refusal (path ∷ [])) 0)) (first_of name_refusal path)
+    ∙ ap (option_or (first_refusal name_refusal path)) (first_of path_refusal (path ∷ []) ∙ or_none (path_refusal path))
+field_first (of_number n) = refl
+field_first (of_bit bit) = refl
+field_first (of_data bytes) = refl
+field_first (of_after None) = refl
+field_first (of_after (Some name)) = first_of name_refusal (name ∷ []) ∙ or_none (name_refusal name)
+
+-- the first of all refusals of some fields is what the parser finds from the left
+pub fields_first : (fields : List Field) → slice_get (flat_map refusals fields) 0 ≡ first_refusal field_refusal fields
+fields_first [] = refl
+fields_first (f ∷ fields) =
+    first-append (refusals f) (flat_map refusals fields)
+    ∙ ap (λ r. option_or r (slice_get (flat_map refusals fields) 0)) (field_first f) ∙ ap (option_or (field_refusal f)) (fields_first fields)
+
 -- ---- looking through the fields
 
 pub scans_none : (text : List ℕ) → length text ≡ 0 → ScansFields [] text None
@@ -154,10 +193,6 @@ none_later s sorts text part more cut none fields h e =
     none first.later first.fit first.rest
 
 -- ---- the last field, in which no space is looked for
-
-or_none : (x : Option Errno) → option_or x None ≡ x
-or_none None = refl
-or_none (Some e) = refl
 
 pub last_scans : (s : Sort) (text inside : List ℕ) (refusal : Option Errno) → text ≡ 32 ∷ inside → Scans s inside refusal → ScansFields (s ∷ []) text refusal
 last_scans s text inside refusal whole scan = record {

@@ -3,26 +3,26 @@ use Rattle.std.proofs.Common.{◌==◌, ◌||◌, ◌≡◌, ◌≢◌, ℕ, Lis
 use Rattle.std.proofs.Common.{length, arith}
 use Rattle.std.proofs.lemmas.Bool.{false≢true}
 use Rattle.std.specs.Prelude.{⊤, map}
-use Rattle.std.specs.List.{AllByRecursion, find, list_any}
+use Rattle.std.specs.List.{AllByRecursion, find, flat_map, list_any, slice_get}
 use Rattle.std.specs.Str.{bytes_eq}
 use Rattle.eden_model.specs.declared.errno.Errno.{Errno}
 use Rattle.eden_model.specs.declared.request.Request.{Request}
 use Rattle.eden_model.specs.declared.request.Request.TheVariants as request
 use Rattle.eden_wire.specs.Words.{word_text, shape_of}
-use Rattle.eden_wire.specs.Fields.{Field, IsField, field_text, field_refusal, first_refusal}
+use Rattle.eden_wire.specs.Fields.{Field, IsField, field_text, refusals}
 use Rattle.eden_wire.specs.Fields.Field.{of_path, of_number, of_bit, of_data, of_after}
 use Rattle.eden_wire.specs.Requests.{spelling, Spells}
 use Rattle.eden_wire.specs.Splits.{Lacks, IsCutAt, IsFirstPart}
 use Rattle.eden_wire.specs.Scans.{SpellNoFields, ScansFields, SpellsFields, SpellsRequest, NextIs, LastIs, Takes}
 use Rattle.eden_wire.specs.Lines.{Reads, AsksSome, OneItem, NoLinePatches}
-use Rattle.eden_wire.specs.Sorts.{sort_of, AreFields, fields_text}
+use Rattle.eden_wire.specs.Sorts.{sort_of, AreFields, fields_text, field_refusal, first_refusal}
 use Rattle.eden_wire.specs.declared.request.Item.TheVariants.{Asks, Refuses, Bad}
 use Rattle.eden_wire.specs.declared.word.Sort.{Sort}
 use Rattle.eden_wire.specs.declared.word.Sort.TheVariants as sort
 use Rattle.eden_wire.specs.declared.word.Word.{Word}
 use Rattle.eden_wire.specs.declared.word.Word.TheVariants as word
 use Rattle.eden_wire.proofs.PathLemmas.{first_part}
-use Rattle.eden_wire.proofs.FieldLemmas.{fields_same}
+use Rattle.eden_wire.proofs.FieldLemmas.{fields_same, fields_first}
 
 -- ---- words
 
@@ -343,14 +343,16 @@ no_fields line first rest w cut is none q refusal s =
 -- a request of a line's word and fields
 asks : (line first rest : List ℕ) (w : Word) (refusal : Option Errno) (q : Request) → Cut line first rest → first ≡ word_text w → ScansFields (shape_of w) rest refusal
     → SpellsRequest w rest q → Spells q line refusal
-asks line first rest w refusal q cut is scan so = record {
-  word = word_text w;
-  fields = so.fields;
-  parts = so.parts;
-  text = cut.whole ∙ ap (λ l. l ++ rest) is ∙ ap (λ l. word_text w ++ l) so.spelled.whole;
-  good = are_good (shape_of w) so.fields so.spelled.good;
-  refused = scan.refused ∙ ap (first_refusal field_refusal) (fields_same (shape_of w) scan.fields so.fields scan.good so.spelled.good (sym scan.spelled ∙ so.spelled.whole));
-}
+asks line first rest w refusal q cut is scan so =
+    let same = fields_same (shape_of w) scan.fields so.fields scan.good so.spelled.good (sym scan.spelled ∙ so.spelled.whole) in
+    record {
+      word = word_text w;
+      fields = so.fields;
+      parts = so.parts;
+      text = cut.whole ∙ ap (λ l. l ++ rest) is ∙ ap (λ l. word_text w ++ l) so.spelled.whole;
+      good = are_good (shape_of w) so.fields so.spelled.good;
+      refused = scan.refused ∙ ap (first_refusal field_refusal) same ∙ sym (fields_first so.fields);
+    }
 
 scanned : (line first rest : List ℕ) (w : Word) (refusal : Option Errno) → Cut line first rest → first ≡ word_text w → ScansFields (shape_of w) rest refusal
     → (q : Request) × Spells q line refusal
@@ -382,7 +384,7 @@ one_spelling q r line x y h k =
     let same : v.word ≡ w.word = word_same v.word w.word begins in
     let all : h.fields ≡ k.fields = fields_same (shape_of w.word) h.fields k.fields (subst (λ u. AreFields (shape_of u) h.fields) same v.sorts) w.sorts ends in
     let both : Some q ≡ Some r = sym v.back ∙ ap (λ u. request_of u h.fields) same ∙ ap (request_of w.word) all ∙ w.back in
-    (cc, h.refused ∙ ap (first_refusal field_refusal) all ∙ sym k.refused)
+    (cc, h.refused ∙ ap (λ l. slice_get (flat_map refusals l) 0) all ∙ sym k.refused)
 
 pub no_line_patches : NoLinePatches
 unfolding Reads

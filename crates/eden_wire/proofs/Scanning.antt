@@ -16,8 +16,7 @@ use Rattle.eden_model.specs.declared.errno.Errno.{Errno}
 use Rattle.eden_wire.specs.Names.{is_plain, byte_text, name_text, IsComponent, AreBytes, SpellsName}
 use Rattle.eden_wire.specs.Splits.{IsCutAt, IsPart}
 use Rattle.eden_wire.specs.Scans.{is_dots, refusal_by, ScansName, SpellsNoName}
-use Rattle.eden_wire.specs.Fields.{first_refusal}
-use Rattle.eden_wire.specs.Sorts.{path_text}
+use Rattle.eden_wire.specs.Sorts.{path_text, first_refusal}
 use Rattle.eden_wire.proofs.NameLemmas.{plain_text, plain_are_bytes, plain_lack, are_bytes-append, text_test, spells_nothing, name_same}
 use Rattle.eden_wire.proofs.PathLemmas.{AreComponents, parts_text, parts-append, next_at, cut_parts, no_part}
 

@@ -1,9 +1,8 @@
 -- The fields of a line: how they are spelled, and which are refused. Data is in lower-case hexadecimal (RFC 4648,
 -- section 8).
-use Rattle.std.specs.Prelude.{ℕ, ◌^◌, ◌<◌, Bool, List, [], ◌∷◌, if◌then◌else◌, Option, Some, None, codes, ⊤}
+use Rattle.std.specs.Prelude.{ℕ, ◌^◌, ◌<◌, Bool, List, [], ◌∷◌, ◌++◌, filter_map, if◌then◌else◌, Option, Some, None, codes, ⊤}
 use Rattle.std.specs.List.{AllByRecursion, flat_map}
 use Rattle.std.specs.Fmt.{decimal}
-use Rattle.std.specs.Option.{option_or}
 use Rattle.hex.specs.Hex.{encode_lower}
 use Rattle.eden_model.specs.Names.{name_refusal}
 use Rattle.eden_model.specs.Paths.{path_refusal}
@@ -36,13 +35,8 @@ IsField (of_data bytes) = AreBytes bytes
 IsField (of_after (Some name)) = IsComponent name
 IsField field = ⊤
 
--- the first refusal from the left
-abbrev pub first_refusal : {A : Type 0} → (A → Option Errno) → List A → Option Errno
-first_refusal why [] = None
-first_refusal why (x ∷ xs) = option_or (why x) (first_refusal why xs)
-
--- the refusals of a path's names come before the path's own
-abbrev pub field_refusal : Field → Option Errno
-field_refusal (of_path path) = option_or (first_refusal name_refusal path) (path_refusal path)
-field_refusal (of_after (Some name)) = name_refusal name
-field_refusal field = None
+-- why a field is refused: for each name, and then for the path
+abbrev pub refusals : Field → List Errno
+refusals (of_path path) = filter_map name_refusal path ++ filter_map path_refusal (path ∷ [])
+refusals (of_after (Some name)) = filter_map name_refusal (name ∷ [])
+refusals field = []

@@ -1,10 +1,10 @@
 -- How requests are spelled, and which are refused for their names: the first reason from the left.
 use Rattle.std.specs.Prelude.{◌≡◌, ℕ, List, [], ◌∷◌, ◌++◌, Option, Some, None, codes}
-use Rattle.std.specs.List.{AllByRecursion, flat_map}
+use Rattle.std.specs.List.{AllByRecursion, flat_map, slice_get}
 use Rattle.eden_model.specs.declared.errno.Errno.{Errno}
 use Rattle.eden_model.specs.declared.request.Request.{Request}
 use Rattle.eden_model.specs.declared.request.Request.TheVariants as request
-use Rattle.eden_wire.specs.Fields.{Field, field_text, IsField, first_refusal, field_refusal}
+use Rattle.eden_wire.specs.Fields.{Field, field_text, IsField, refusals}
 use Rattle.eden_wire.specs.Fields.Field.{of_path, of_number, of_bit, of_data, of_after}
 
 -- the word that a request's line begins with, and the fields behind it; no line spells a patch
@@ -25,11 +25,11 @@ spelling (request.Unlink path) = Some (codes "unlink", of_path path ∷ [])
 spelling (request.Rmdir path) = Some (codes "rmdir", of_path path ∷ [])
 spelling (request.Rename from to) = Some (codes "rename", of_path from ∷ of_path to ∷ [])
 
--- the line is the request's word, and each field behind a space; it is so refused if its names aren't names
+-- the line is the request's word, and each field behind a space; of its refusals this is the first, if there are any
 pub record Spells (q : Request) (line : List ℕ) (refusal : Option Errno) : Type 0 where
   pub word : List ℕ
   pub fields : List Field
   pub parts : spelling q ≡ Some (word, fields)
   pub text : line ≡ word ++ flat_map (λ f. 32 ∷ field_text f) fields
   pub good : AllByRecursion IsField fields
-  pub refused : refusal ≡ first_refusal field_refusal fields
+  pub refused : refusal ≡ slice_get (flat_map refusals fields) 0

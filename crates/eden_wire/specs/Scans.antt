@@ -9,11 +9,11 @@ use Rattle.eden_model.specs.declared.errno.Errno.{Errno}
 use Rattle.eden_model.specs.declared.errno.Errno.TheVariants.{EINVAL, ENAMETOOLONG}
 use Rattle.eden_model.specs.declared.request.Request.{Request}
 use Rattle.eden_wire.specs.Names.{name_text, IsComponent, AreBytes}
-use Rattle.eden_wire.specs.Fields.{Field, field_text, IsField, field_refusal, first_refusal}
+use Rattle.eden_wire.specs.Fields.{Field, field_text, IsField}
 use Rattle.eden_wire.specs.Fields.Field.{of_path, of_after}
 use Rattle.eden_wire.specs.Requests.{spelling}
 use Rattle.eden_wire.specs.Words.{word_text, shape_of}
-use Rattle.eden_wire.specs.Sorts.{path_text, hex_text, after_text, fields_text, IsAfter, sort_of, AreFields}
+use Rattle.eden_wire.specs.Sorts.{path_text, hex_text, after_text, fields_text, IsAfter, sort_of, AreFields, field_refusal, first_refusal}
 use Rattle.eden_wire.specs.declared.word.Word.{Word}
 use Rattle.eden_wire.specs.declared.word.Sort.{Sort}
 

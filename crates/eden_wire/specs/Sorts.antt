@@ -1,6 +1,10 @@
 -- The fields of a line by their sorts.
-use Rattle.std.specs.Prelude.{ℕ, ◌≡◌, Bool, List, [], ◌∷◌, Option, ⊤}
+use Rattle.std.specs.Prelude.{ℕ, ◌≡◌, Bool, List, [], ◌∷◌, Option, Some, None, ⊤}
 use Rattle.std.specs.List.{flat_map}
+use Rattle.std.specs.Option.{option_or}
+use Rattle.eden_model.specs.Names.{name_refusal}
+use Rattle.eden_model.specs.Paths.{path_refusal}
+use Rattle.eden_model.specs.declared.errno.Errno.{Errno}
 use Rattle.eden_wire.specs.Names.{name_text}
 use Rattle.eden_wire.specs.Fields.{Field, field_text, IsField}
 use Rattle.eden_wire.specs.Fields.Field.{of_path, of_number, of_bit, of_data, of_after}
@@ -20,6 +24,17 @@ AreFields [] [] = ⊤
 AreFields [] (f ∷ fields) = ⊥
 AreFields (s ∷ sorts) [] = ⊥
 AreFields (s ∷ sorts) (f ∷ fields) = (sort_of f ≡ s) × IsField f × AreFields sorts fields
+
+-- the first refusal from the left
+abbrev pub first_refusal : {A : Type 0} → (A → Option Errno) → List A → Option Errno
+first_refusal why [] = None
+first_refusal why (x ∷ xs) = option_or (why x) (first_refusal why xs)
+
+-- the refusals of a path's names come before the path's own
+abbrev pub field_refusal : Field → Option Errno
+field_refusal (of_path path) = option_or (first_refusal name_refusal path) (path_refusal path)
+field_refusal (of_after (Some name)) = name_refusal name
+field_refusal field = None
 
 -- a name of a path
 abbrev pub component_text : List ℕ → List ℕ
