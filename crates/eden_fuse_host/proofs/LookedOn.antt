@@ -9,7 +9,7 @@ use Rattle.eden_model.specs.declared.request.Request.{Request}
 use Rattle.eden_model.specs.Numbers.{Numbers}
 use Rattle.eden_model.specs.Trees.{Tree}
 use Rattle.eden_shared.specs.declared.account.Told.{Told}
-use Rattle.eden_shared.specs.Accounts.{told}
+use Rattle.eden_shared.specs.Accounts.{told_as}
 use Rattle.eden_shared.specs.Calls.{Grows}
 use Rattle.eden_shared.specs.Passes.{Carried}
 use Rattle.eden_fuse_format.specs.declared.message.Message.{Message}
@@ -47,9 +47,9 @@ looked_once honest opening N p p' t quiet grown = record {
 }
 
 -- .. and it met a fault
-pub met_once : (honest : Type 0) (opening : Tree) (N : Numbers) (p p' : Carried) (n : ℕ) (q : Request) (r : Reply) (why : Cause) → Grows honest opening N p (told n q r) p' → r ≡ Fault why
+pub met_once : (honest : Type 0) (opening : Tree) (N : Numbers) (p p' : Carried) (n : ℕ) (q : Request) (r : Reply) (why : Cause) → Grows honest opening N p (told_as n q r) p' → r ≡ Fault why
     → HasMetFault p p'
-met_once honest opening N p p' n q r why grown is = (n, q, why, ap (λ (x : Carried). x.told) grown.is ∙ ap (λ (s : Reply). p.told ++ told n q s ∷ []) is)
+met_once honest opening N p p' n q r why grown is = (n, q, why, ap (λ (x : Carried). x.told) grown.is ∙ ap (λ (s : Reply). p.told ++ told_as n q s ∷ []) is)
 
 all_quiet : (ts us : List Told) → AllByRecursion IsQuiet ts → AllByRecursion IsQuiet us → AllByRecursion IsQuiet (ts ++ us)
 all_quiet [] us a b = b

@@ -10,7 +10,7 @@ use Rattle.eden_model.specs.declared.reply.Reply.TheVariants.{Fault}
 use Rattle.eden_model.specs.Numbers.{Numbers}
 use Rattle.eden_model.specs.Trees.{Tree}
 use Rattle.eden_shared.specs.declared.account.Told.{Told}
-use Rattle.eden_shared.specs.Accounts.{told}
+use Rattle.eden_shared.specs.Accounts.{told_as}
 use Rattle.eden_shared.specs.Calls.{Grows, IsLawful}
 use Rattle.eden_shared.specs.Passes.{Carried}
 use Rattle.eden_fuse_shown.specs.declared.mount.Unheard.{Unheard}
@@ -20,7 +20,7 @@ use Rattle.eden_fuse_shown.specs.Running.{IsUnstored}
 module _ (honest : Type 0) (opening : Tree) (numbers : Numbers) where
   -- the pass was told of one call more, and its reply is the mount's; or the request wasn't served, and the pass stays
   abbrev pub PassAnswers : Carried → Request → Result Reply CallFault → Carried → Type 0
-  PassAnswers p q (Ok reply) p' = (n : ℕ) × Grows honest opening numbers p (told n q reply) p'
+  PassAnswers p q (Ok reply) p' = (n : ℕ) × Grows honest opening numbers p (told_as n q reply) p'
   PassAnswers p q (Err fault) p' = IsLawful honest opening numbers p fault × (p' ≡ p)
 
 -- what is heard of a reply: it, or what kept the device from storing where it was that stored files failed
@@ -45,4 +45,4 @@ pub record HasLooked (p p' : Carried) : Type 0 where
 
 -- .. was told of one look since then, and its reply is a fault
 abbrev pub HasMetFault : Carried → Carried → Type 0
-HasMetFault p p' = (number : ℕ) × (look : Request) × (why : Cause) × (p'.told ≡ p.told ++ told number look (Fault why) ∷ [])
+HasMetFault p p' = (number : ℕ) × (look : Request) × (why : Cause) × (p'.told ≡ p.told ++ told_as number look (Fault why) ∷ [])

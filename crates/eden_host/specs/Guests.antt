@@ -8,7 +8,7 @@ use Rattle.eden_model.specs.declared.reply.Reply.{Reply}
 use Rattle.eden_model.specs.Numbers.{Numbers}
 use Rattle.eden_model.specs.Trees.{Tree}
 use Rattle.eden_shared.specs.declared.account.Told.{Told}
-use Rattle.eden_shared.specs.Accounts.{told}
+use Rattle.eden_shared.specs.Accounts.{told_as}
 use Rattle.eden_shared.specs.Calls.{Grows, IsRefusal}
 use Rattle.eden_shared.specs.Passes.{Carried}
 
@@ -36,7 +36,7 @@ module _ (honest : Type 0) (opening : Tree) (numbers : Numbers) where
 
   -- the pass was told of one call more, and its reply is the answer; or the request wasn't taken, and nothing changed
   abbrev pub GuestAnswers : Carried → Request → Result Reply CallFault → Carried → Type 0
-  GuestAnswers old q (Ok reply) new = (n : ℕ) × Grows honest opening numbers old (told n q reply) new
+  GuestAnswers old q (Ok reply) new = (n : ℕ) × Grows honest opening numbers old (told_as n q reply) new
   GuestAnswers old q (Err fault) new = IsTurnedAway old fault × (new ≡ old)
 
   -- .. by what the guest's pass carries

@@ -1,7 +1,7 @@
 //! One of the callers of a shared mount.
 ghost use Rattle.std.specs.Prelude.{◌≡◌, ℕ, IfErr, OnErr, OnOk};
 ghost use Rattle.eden_host.specs.Guests.{HasLearntNothing, IsTurnedAway};
-ghost use Rattle.eden_shared.specs.Accounts.{told};
+ghost use Rattle.eden_shared.specs.Accounts.{told_as};
 ghost use Rattle.eden_shared.specs.Calls.{Grows};
 
 use crate::served::Served;
@@ -66,7 +66,7 @@ impl<'a, W: World, J: Naming, C: Served<W, J>, R: Wait> Guest<'a, W, J, C, R> {
     /// Asks a request, and waits for its reply, which lies here from then on; or the pass stays as it was.
     fn ask(&mut self, request: Request) -> Result<(), CallFault>
         ensures grows { OnOk result ((n : ℕ) × Grows W.honest W.opening W.numbers self.old.pass
-            (told n request self.new.reply) self.new.pass) }
+            (told_as n request self.new.reply) self.new.pass) }
         ensures same { OnErr result (self.new.pass ≡ self.old.pass) }
         ensures why { IfErr result (IsTurnedAway W.honest W.opening W.numbers self.old.pass) }
     {

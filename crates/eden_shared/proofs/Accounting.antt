@@ -13,7 +13,7 @@ use Rattle.eden_mount.specs.declared.seats.Pending.{Pending}
 use Rattle.eden_shared.specs.declared.account.Account.{Account}
 use Rattle.eden_shared.specs.declared.account.Terms.{Terms}
 use Rattle.eden_shared.specs.declared.account.Told.{Told}
-use Rattle.eden_shared.specs.Accounts.{told, account, told_by, accounts}
+use Rattle.eden_shared.specs.Accounts.{told_as, account, told_by, accounts}
 
 -- ---- one pass
 
@@ -25,17 +25,17 @@ push_if true t xs ys = refl
 push_if false t xs ys = refl
 
 -- an entry of its own is told last
-told_own : (p n : ℕ) (h : List Entry) (q : Request) (r : Reply) → told_by p n (h ++ entry p q r ∷ []) ≡ told_by p n h ++ told (n + length h) q r ∷ []
-told_own p n [] q r = ap (λ b. if b then told n q r ∷ [] else []) (eq-eqb p p refl) ∙ ap (λ m. told m q r ∷ []) (omega arith)
+told_own : (p n : ℕ) (h : List Entry) (q : Request) (r : Reply) → told_by p n (h ++ entry p q r ∷ []) ≡ told_by p n h ++ told_as (n + length h) q r ∷ []
+told_own p n [] q r = ap (λ b. if b then told_as n q r ∷ [] else []) (eq-eqb p p refl) ∙ ap (λ m. told_as m q r ∷ []) (omega arith)
 told_own p n (e ∷ h) q r =
-    let ys : List Told = told (n + length (e ∷ h)) q r ∷ [] in
-    let rest : told_by p (suc n) (h ++ entry p q r ∷ []) ≡ told_by p (suc n) h ++ ys = told_own p (suc n) h q r ∙ ap (λ m. told_by p (suc n) h ++ told m q r ∷ []) (omega arith) in
-    ap (λ ts. if e.pass == p then told n e.request e.reply ∷ ts else ts) rest ∙ push_if (e.pass == p) (told n e.request e.reply) (told_by p (suc n) h) ys
+    let ys : List Told = told_as (n + length (e ∷ h)) q r ∷ [] in
+    let rest : told_by p (suc n) (h ++ entry p q r ∷ []) ≡ told_by p (suc n) h ++ ys = told_own p (suc n) h q r ∙ ap (λ m. told_by p (suc n) h ++ told_as m q r ∷ []) (omega arith) in
+    ap (λ ts. if e.pass == p then told_as n e.request e.reply ∷ ts else ts) rest ∙ push_if (e.pass == p) (told_as n e.request e.reply) (told_by p (suc n) h) ys
 
 -- .. and one of another isn't
 told_others : (p c n : ℕ) (h : List Entry) (q : Request) (r : Reply) → (p == c) ≡ false → told_by c n (h ++ entry p q r ∷ []) ≡ told_by c n h
-told_others p c n [] q r other = ap (λ b. if b then told n q r ∷ [] else []) other
-told_others p c n (e ∷ h) q r other = ap (λ ts. if e.pass == c then told n e.request e.reply ∷ ts else ts) (told_others p c (suc n) h q r other)
+told_others p c n [] q r other = ap (λ b. if b then told_as n q r ∷ [] else []) other
+told_others p c n (e ∷ h) q r other = ap (λ ts. if e.pass == c then told_as n e.request e.reply ∷ ts else ts) (told_others p c (suc n) h q r other)
 
 -- what was told is in the history
 pub told_within : (c n m : ℕ) (h : List Entry) → n + length h ≤ suc m → AllByRecursion (λ (t : Told). t.number ≤ m) (told_by c n h)
@@ -43,7 +43,7 @@ told_within c n m [] within = tt
 told_within c n m (e ∷ h) within = by_cases (e.pass == c) (told_within c (suc n) m h (omega arith))
   where
     by_cases : (b : Bool) → AllByRecursion (λ (t : Told). t.number ≤ m) (told_by c (suc n) h)
-        → AllByRecursion (λ (t : Told). t.number ≤ m) (if b then told n e.request e.reply ∷ told_by c (suc n) h else told_by c (suc n) h)
+        → AllByRecursion (λ (t : Told). t.number ≤ m) (if b then told_as n e.request e.reply ∷ told_by c (suc n) h else told_by c (suc n) h)
     by_cases true rest = (omega arith, rest)
     by_cases false rest = rest
 
@@ -76,7 +76,7 @@ module _ (t : Terms) where
 
   -- a pass is answered: its seat is free, and it was told of the entry
   pub accounts_done : (c p : ℕ) (seats : List (Option Pending)) (h : List Entry) (k : ℕ) (q : Request) (r : Reply) → p ≡ c + k
-      → accounts t c (slice_set seats k None) (h ++ entry p q r ∷ []) ≡ slice_set (accounts t c seats h) k (account t None (told_by p 1 h ++ told (1 + length h) q r ∷ []))
+      → accounts t c (slice_set seats k None) (h ++ entry p q r ∷ []) ≡ slice_set (accounts t c seats h) k (account t None (told_by p 1 h ++ told_as (1 + length h) q r ∷ []))
   accounts_done c p [] h k q r is = refl
   accounts_done c p (x ∷ seats) h zero q r is =
       let pass : c ≡ p = omega arith in

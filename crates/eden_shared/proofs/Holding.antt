@@ -21,7 +21,7 @@ use Rattle.eden_shared.specs.declared.account.Account.{Account}
 use Rattle.eden_shared.specs.declared.account.Terms.{Terms}
 use Rattle.eden_shared.specs.declared.lanes.Answered.{Answered}
 use Rattle.eden_shared.specs.declared.lanes.Lane.{Lane}
-use Rattle.eden_shared.specs.Accounts.{told, account, told_by, accounts}
+use Rattle.eden_shared.specs.Accounts.{told_as, account, told_by, accounts}
 use Rattle.eden_shared.specs.Answers.{told_of, after_answer}
 use Rattle.eden_shared.specs.Calls.{IsRefusal}
 use Rattle.eden_shared.specs.Guarded.{IsTied}
@@ -112,8 +112,8 @@ module _ {T : Type 0} (m : Core T) (vs : List Account) (t : Terms) (n : ℕ) (v 
     pub finished : (a : Answered) (vs' : List Account) → a.number ≡ k → a.reply ≡ r → vs' ≡ slice_set vs (n - 1) (after_answer a v) → vs' ≡ accounts t 1 m'.seats m'.history
     finished a vs' number reply set =
         let at_end : a.number ≡ 1 + length m.history = (let e = done.2 in omega arith) in
-        let after : account v.terms None (v.told ++ told_of v.pending a) ≡ account t None (told_by n 1 m.history ++ told (1 + length m.history) done.0.request r ∷ []) =
-        (λ i. account (known.2 i) None (known.1 i ++ told_of (answered i) a)) ∙ (λ i. account t None (told_by n 1 m.history ++ told (at_end i) done.0.request (reply i) ∷ [])) in
+        let after : account v.terms None (v.told ++ told_of v.pending a) ≡ account t None (told_by n 1 m.history ++ told_as (1 + length m.history) done.0.request r ∷ []) =
+        (λ i. account (known.2 i) None (known.1 i ++ told_of (answered i) a)) ∙ (λ i. account t None (told_by n 1 m.history ++ told_as (at_end i) done.0.request (reply i) ∷ [])) in
         set ∙ (λ i. slice_set (are i) (n - 1) (after i))
         ∙ sym (accounts_done t 1 n m.seats m.history (n - 1) done.0.request r (omega arith))
         ∙ ap (λ (c : Core T). accounts t 1 c.seats c.history) (sym done.3)

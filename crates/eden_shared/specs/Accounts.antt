@@ -8,8 +8,8 @@ use Rattle.eden_shared.specs.declared.account.Account.{Account}
 use Rattle.eden_shared.specs.declared.account.Terms.{Terms}
 use Rattle.eden_shared.specs.declared.account.Told.{Told}
 
-abbrev pub told : ℕ → Request → Reply → Told
-told n q r = record { number = n; request = q; reply = r }
+abbrev pub told_as : ℕ → Request → Reply → Told
+told_as n q r = record { number = n; request = q; reply = r }
 
 -- a request that is pending, and how long the history was at its start
 abbrev pub pended : Request → ℕ → Pending
@@ -21,7 +21,7 @@ account terms s ts = record { terms = terms; pending = s; told = ts }
 -- the entries of pass c, where the first has the number n
 abbrev pub told_by : ℕ → ℕ → List Entry → List Told
 told_by c n [] = []
-told_by c n (e ∷ es) = if e.pass == c then told n e.request e.reply ∷ told_by c (suc n) es else told_by c (suc n) es
+told_by c n (e ∷ es) = if e.pass == c then told_as n e.request e.reply ∷ told_by c (suc n) es else told_by c (suc n) es
 
 -- the accounts of the passes from c on: their seats, and their entries
 abbrev pub accounts : Terms → ℕ → List (Option Pending) → List Entry → List Account

@@ -1,5 +1,5 @@
 ghost use Rattle.std.specs.Prelude.{◌≡◌, ◌+◌, min, IfOk, IfErr, OnErr};
-ghost use Rattle.eden_shared.specs.Accounts.{told};
+ghost use Rattle.eden_shared.specs.Accounts.{told_as};
 ghost use Rattle.eden_shared.specs.Calls.{Grows, IsLawful};
 ghost use Rattle.eden_shared.specs.Passes.{carried, greater, Rises};
 
@@ -85,7 +85,7 @@ impl<J: Naming> Pass<J> {
         request: Request,
     ) -> Result<Answered, CallFault>
         ensures ok { IfOk result (λ a. Grows W.honest W.opening W.numbers self.old
-            (told a.number request a.reply) self.new) }
+            (told_as a.number request a.reply) self.new) }
         ensures err { OnErr result (self.new ≡ self.old) }
         ensures why { IfErr result (IsLawful W.honest W.opening W.numbers self.old) }
     {
@@ -111,7 +111,7 @@ impl<J: Naming> Pass<J> {
         request: Request,
     ) -> Result<Answered, CallFault>
         ensures ok { IfOk result (λ a. Grows W.honest W.opening W.numbers self.old
-            (told a.number request a.reply) self.new) }
+            (told_as a.number request a.reply) self.new) }
         ensures err { OnErr result (self.new ≡ self.old) }
         ensures why { IfErr result (IsLawful W.honest W.opening W.numbers self.old) }
     {

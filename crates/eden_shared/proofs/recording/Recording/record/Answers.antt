@@ -3,7 +3,7 @@ use Rattle.std.specs.Prelude.{IfSome}
 use Rattle.eden_model.specs.Numbers.{Numbers}
 use Rattle.eden_model.specs.Trees.{Tree}
 use Rattle.eden_shared.specs.declared.account.Told.{Told}
-use Rattle.eden_shared.specs.Accounts.{told}
+use Rattle.eden_shared.specs.Accounts.{told_as}
 use Rattle.eden_shared.specs.Calls.{Grows}
 use Rattle.eden_shared.specs.Passes.{Carried}
 use Rattle.eden_shared.proofs.recording.Recording.record.Goals as goal
@@ -13,8 +13,8 @@ pub invariant_of-self-in-Ok-call : goal.invariant_of-self-in-Ok-call
 invariant_of-self-in-Ok-call g c =
     let a = c.in-Ok-call.answer in let kept = c.in-Ok.kept in
     ap (λ (p : Carried). p.told) c.in-Ok-call.ensures.ok.is
-    ∙ (λ i. c.self.invariant i ++ told a.number (sym c.in-Ok.ensures.kept i) a.reply ∷ [])
-    ∙ ap (λ l. l ++ told a.number kept a.reply ∷ []) (sym c.keep.ensures.same)
+    ∙ (λ i. c.self.invariant i ++ told_as a.number (sym c.in-Ok.ensures.kept i) a.reply ∷ [])
+    ∙ ap (λ l. l ++ told_as a.number kept a.reply ∷ []) (sym c.keep.ensures.same)
     ∙ sym c.push_reserved.ensures.items
 
 read_behind : (ts : List Told) (t : Told) → slice_get (ts ++ t ∷ []) (length ts) ≡ Some t
