@@ -5,7 +5,6 @@ use Rattle.std.specs.List.{AllByRecursion}
 use Rattle.eden_mount.specs.declared.seats.Pending.{Pending}
 use Rattle.eden_mount.specs.Core.{Core}
 use Rattle.eden_mount.specs.Kept.{core_from}
-use Rattle.eden_mount.specs.Serving.{IsAtRest}
 use Rattle.eden_mount.specs.Settings.{IsRoom, Room}
 use Rattle.eden_shared.specs.Opening.{IsUnused}
 use Rattle.eden_shared.specs.declared.account.Terms.{Terms}
@@ -50,11 +49,10 @@ nobody_sits (suc n) zero s at = absurd (cc at)
 nobody_sits (suc n) (suc k) s at = nobody_sits n k s at
 
 -- a mount of some settings' room
-pub unused : {T : Type 0} (t : T) (r : Room) (limit : ℕ) (m : Core T) → IsRoom r → m ≡ core_from t r.queue r.seats [] limit → IsAtRest m → IsUnused m
-unused t r limit m room is rest =
+pub unused : {T : Type 0} (t : T) (r : Room) (limit : ℕ) (m : Core T) → IsRoom r → m ≡ core_from t r.queue r.seats [] limit → IsUnused m
+unused t r limit m room is =
     let seats : m.seats ≡ replicate room.settings.passes None = ap (λ (c : Core _). c.seats) is ∙ ap (λ (x : Room). x.seats) room.is in
     record {
       history = ap (λ (c : Core _). c.history) is;
       rest = λ c s pends. nobody_sits room.settings.passes (c - 1) s (subst (λ (ss : List (Option Pending)). slice_index_or ss (c - 1) None ≡ Some s) seats pends.1);
-      quiet = rest.quiet;
     }

@@ -2,7 +2,6 @@
 use Rattle.std.specs.Prelude.{◌≡◌, ◌<◌, ℕ, List, [], length, map, slice_get, Some, None}
 use Rattle.eden_mount.specs.declared.seats.Pending.{Pending}
 use Rattle.eden_mount.specs.Core.{Core, Pends}
-use Rattle.eden_mount.specs.Serving.{IsQuiet}
 use Rattle.eden_shared.specs.declared.lanes.Lane.{Lane}
 use Rattle.eden_shared.specs.declared.opening.End.{End}
 use Rattle.eden_shared.specs.declared.account.Account.{Account}
@@ -10,11 +9,10 @@ use Rattle.eden_shared.specs.declared.account.Terms.{Terms}
 use Rattle.eden_shared.specs.Accounts.{account}
 use Rattle.eden_shared.specs.Lanes.{names_of, values_of}
 
--- nothing has happened yet, and nothing is pending, queued or in flight
+-- nothing has happened yet, and nothing is pending
 pub record IsUnused {T : Type 0} (m : Core T) : Type 0 where
   pub history : m.history ≡ []
   pub rest : (c : ℕ) (s : Pending) → ¬ Pends c s m
-  pub quiet : IsQuiet m
 
 -- both ends of n ties
 pub record AreTied (lanes : List Lane) (ends : List End) (n : ℕ) : Type 0 where

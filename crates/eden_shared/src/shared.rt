@@ -14,7 +14,7 @@ use eden_model::{CallFault, Obstacle, Path, Request, World};
 use eden_mount::Attempts;
 use eden_source::Source;
 use std::alloc::{Allocator, Global};
-use std::sync::{Condvar, Mutex, Wait};
+use std::sync::{Condvar, Mutex, MutexGuard, Wait};
 
 /// A mount that threads share. Each hold of its lock is one event of the mount or none, and nothing is fetched in one.
 ///
@@ -50,6 +50,13 @@ impl<W: World, T: Attempts<W> + Drop, A: Allocator, J: Naming, H: History> Share
         self.lock.lock(rt).start(number, known, end, request)
     }
 
+    /// Wakes the fetchers where nothing will be wanted any more.
+    fn tell_over(&self, locked: &Locked<W, T, A, J, H>) {
+        if locked.is_over() {
+            self.fetchers.notify_all();
+        }
+    }
+
     /// Tries until the pending request is answered, and waits between two tries.
     pub(crate) fn wait_for<R: Wait>(&self, rt: &R, number: u32, end: &mut Far<Account>) -> Answered
         requires { HasName J.names number end.old.name }
@@ -60,15 +67,29 @@ impl<W: World, T: Attempts<W> + Drop, A: Allocator, J: Naming, H: History> Share
         let mut guard = self.lock.lock(rt);
         for _ in rt.forever() {
             if let Some(answer) = guard.step(number, end) {
-                if guard.is_over() {
-                    self.fetchers.notify_all();
-                }
+                self.tell_over(&guard);
                 return answer;
             }
             self.fetchers.notify_one();
             guard = self.callers.wait(rt, guard);
         }
         unreachable!()
+    }
+
+    /// Fetches what is wanted, or waits where others fetch that. It lets go of the lock.
+    fn fetch_or_wait<S: Source<W>, R: Wait>(
+        &self,
+        rt: &R,
+        source: &mut S,
+        mut guard: MutexGuard<'_, Locked<W, T, A, J, H>>,
+    ) {
+        match guard.take_want() {
+            Some(key) => {
+                drop(guard);
+                self.fetch(rt, source, key);
+            }
+            None => drop(self.callers.wait(rt, guard)),
+        }
     }
 
     /// Tries until the pending request is answered. Between two tries it fetches what is wanted, or waits where others
@@ -88,18 +109,10 @@ impl<W: World, T: Attempts<W> + Drop, A: Allocator, J: Naming, H: History> Share
         for _ in rt.forever() {
             let mut guard = self.lock.lock(rt);
             if let Some(answer) = guard.step(number, end) {
-                if guard.is_over() {
-                    self.fetchers.notify_all();
-                }
+                self.tell_over(&guard);
                 return answer;
             }
-            match guard.take_want() {
-                Some(key) => {
-                    drop(guard);
-                    self.fetch(rt, source, key);
-                }
-                None => drop(self.callers.wait(rt, guard)),
-            }
+            self.fetch_or_wait(rt, source, guard);
         }
         unreachable!()
     }

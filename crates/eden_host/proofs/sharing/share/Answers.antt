@@ -5,7 +5,7 @@ use Rattle.eden_host.proofs.Beginning.{unused}
 use Rattle.eden_host.proofs.sharing.share.Goals as goal
 
 pub open-requires-clause-unused : goal.open-requires-clause-unused
-open-requires-clause-unused g c = unused c.args.table c.args.room (g.H.History.limit c.args.history) c.new-mount.result c.requires.room c.new-mount.ensures.value c.new-mount.ensures.rest
+open-requires-clause-unused g c = unused c.args.table c.args.room (g.H.History.limit c.args.history) c.new-mount.result c.requires.room c.new-mount.ensures.value
 
 pub open-requires-clause-ties : goal.open-requires-clause-ties
 open-requires-clause-ties g c =
