@@ -110,7 +110,7 @@ module _ (R : Repository) (F : Stored) (x : Row) (next : ℕ) (root : Id) (table
         (subst (λ (y : Row). KeepsNumbers R F y next) (sym root_there) keeps))
 
     pub can_open : KeepsNumbers R F x next → CanOpen R (shown_in R F x) N root F
-    can_open keeps = record { kept = λ later found most. can_keep keeps later found }
+    can_open keeps = record { kept = can_keep keeps }
 
 pub holds_state : (F : Stored) (s : State) → IsGoodState s → HoldsState (with_state F s) s
 holds_state F s good = state_written s good

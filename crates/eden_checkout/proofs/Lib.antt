@@ -1,5 +1,6 @@
 pub mod CallerLemmas
 pub mod Listed
+pub mod Rescanned
 pub mod Opened
 pub mod Fresh
 pub mod Closed

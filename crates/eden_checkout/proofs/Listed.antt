@@ -34,7 +34,7 @@ use Rattle.eden_coupling.specs.Numberings.{in_files, entries_by, entry_at, row_o
 use Rattle.eden_coupling.specs.Shown.{TableSource, Away, item_away, table_ground, shown_in}
 use Rattle.eden_coupling.proofs.CallerLemmas.{map_some, and_then_some}
 use Rattle.eden_inode.specs.Tables.{fresh_root}
-use Rattle.eden_checkout.specs.Opening.{root_entry, listed_at, files_show, files_number, FilesKeep}
+use Rattle.eden_checkout.specs.Opening.{root_entry, listed_at, files_show, files_number, IsListed, FilesKeep}
 
 -- the root of a table over those files, as it isn't loaded
 abbrev pub root_row : Id → Stored → Row
@@ -87,7 +87,7 @@ numbers_are root F = fun_ext (number_is root F)
 
 -- what files list of a directory at a path is what it has
 abbrev pub ListWhatIs : Repository → Id → Stored → Type 0
-ListWhatIs R root F = (p : Path) (e : StoredEntry) (es : List StoredEntry) → listed_at F (root_entry root F) p ≡ Some e → listing_at F e.number e.origin ≡ Some es
+ListWhatIs R root F = (e : StoredEntry) (es : List StoredEntry) → IsListed root F e → listing_at F e.number e.origin ≡ Some es
     → entries_with R (own_files F) (source_of e.number e.origin) ≡ Some (items_of es)
 
 as_items : (es : List StoredEntry) (n : Name) → option_map item_away (row_named n es) ≡ items_of es n
@@ -105,16 +105,16 @@ module _ (R : Repository) (root : Id) (F : Stored) where
       let lists : listing_at F e.number e.origin ≡ Some es =
       ap (listing_at F e.number) object ∙ ap (λ (y : Row). saved_at F y.number id) found.1.1 ∙ saved in
       let has : option_map tree_items (R.tree id) ≡ Some (items_of es) =
-      sym (ap (λ (o : Origin). entries_with R (own_files F) (source_of e.number o)) object) ∙ are p e es found.1.0 lists in
+      sym (ap (λ (o : Origin). entries_with R (own_files F) (source_of e.number o)) object) ∙ are e es (p, found.1.0) lists in
       let ts = map_some tree_items (R.tree id) (items_of es) (sym has) in
       (ts.0, ts.1.0, λ n. as_items es n ∙ sym (ap (λ (f : Items Source). f n) ts.1.1))
 
   trees_listed : ListTrees R (in_files F) (root_row root F) → ListWhatIs R root F
-  trees_listed trees p e es there lists = by_origin e.origin refl where
+  trees_listed trees e es at lists = by_origin e.origin refl where
     by_origin : (o : Origin) → e.origin ≡ o → entries_with R (own_files F) (source_of e.number e.origin) ≡ Some (items_of es)
     by_origin (origin.Object id) is =
         let has : ListsTree R id es =
-        trees p (row_of e) id es (rows_at F p (root_entry root F) ∙ ap (option_map row_of) there) refl is (sym (ap (listing_at F e.number) is) ∙ lists) in
+        trees at.0 (row_of e) id es (rows_at F at.0 (root_entry root F) ∙ ap (option_map row_of) at.1) refl is (sym (ap (listing_at F e.number) is) ∙ lists) in
         ap (λ (o : Origin). entries_with R (own_files F) (source_of e.number o)) is
         ∙ ap (option_map tree_items) has.1 ∙ ap Some (fun_ext (λ n. sym (has.2 n) ∙ as_items es n))
     by_origin origin.Own is =
@@ -160,18 +160,18 @@ entry_apart k (origin.Object id) other = tt
 entry_apart k origin.Own other = other
 entry_apart k origin.Empty other = tt
 
-of_directory : {X : Type 0} (t : Kind) (o : Option X) (x : X) → if_dir t o ≡ Some x → o ≡ Some x
-of_directory kind.File o x h = absurd (none-some x h)
-of_directory kind.Exec o x h = absurd (none-some x h)
-of_directory kind.Link o x h = absurd (none-some x h)
-of_directory kind.Dir o x h = h
+pub only_directory : {X : Type 0} (t : Kind) (o : Option X) (x : X) → if_dir t o ≡ Some x → (t ≡ kind.Dir) × (o ≡ Some x)
+only_directory kind.File o x h = absurd (none-some x h)
+only_directory kind.Exec o x h = absurd (none-some x h)
+only_directory kind.Link o x h = absurd (none-some x h)
+only_directory kind.Dir o x h = (refl, h)
 
 called : (b : Bool) (f e : StoredEntry) (es : List StoredEntry) (later : Option StoredEntry) → cond b (Some f) later ≡ Some e → (later ≡ Some e → Contains es e)
     → Contains (f ∷ es) e
 called true f e es later is rest = (zero, omega arith, same_Some f e is)
 called false f e es later is rest = contains_rest f e es (rest is)
 
-found_there : (n : Name) (es : List StoredEntry) (e : StoredEntry) → named (λ (s : StoredEntry). s.name) n es ≡ Some e → Contains es e
+pub found_there : (n : Name) (es : List StoredEntry) (e : StoredEntry) → named (λ (s : StoredEntry). s.name) n es ≡ Some e → Contains es e
 found_there n [] e h = absurd (none-some e h)
 found_there n (f ∷ es) e h = called (bytes_eq n f.name) f e es (named (λ (s : StoredEntry). s.name) n es) h (found_there n es e)
 
@@ -208,8 +208,8 @@ module _ (R : Repository) (F : Stored) where
   paths_apart [] i j apart h = subst (λ (k : Item Source). IsApart k.source) (same_Some i j h) apart
   paths_apart (n ∷ p) i j apart h =
       let m = and_then_some (λ (k : Item Source). item_at with_state k p) (entry_in with_state i n) j h in
-      let here = of_directory i.kind (option_and_then (λ (es : Items Source). es n) (entries_with R (own_files F) i.source)) m.0 m.1.0 in
-      paths_apart p m.0 j (below_apart i.source n m.0 here) m.1.1
+      let here = only_directory i.kind (option_and_then (λ (es : Items Source). es n) (entries_with R (own_files F) i.source)) m.0 m.1.0 in
+      paths_apart p m.0 j (below_apart i.source n m.0 here.1) m.1.1
 
   holds_same : (s : Source) → IsApart s → (stateless.entries s ≡ with_state.entries s) × (stateless.content s ≡ with_state.content s)
   holds_same (Object id) apart = (refl, refl)

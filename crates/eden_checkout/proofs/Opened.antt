@@ -1,5 +1,5 @@
 -- A table over files as they are opened.
-use Rattle.std.proofs.Common.{◌≡◌, ◌≢◌, ◌<◌, ◌≤◌, ◌⊎◌, ℕ, List, Option, Some, None, Result, Ok, Err, IfErr, IsSome, sym, refl, ◌∙◌, ap, subst, inl, inr, arith}
+use Rattle.std.proofs.Common.{◌≡◌, ◌≢◌, ◌<◌, ◌⊎◌, ℕ, List, Option, Some, None, Result, Ok, Err, IfErr, IsSome, sym, refl, ◌∙◌, ap, subst, inl, inr, arith}
 use Rattle.std.proofs.lemmas.Option.{none-some}
 use Rattle.std.proofs.Math.Path.{fun_ext}
 use Rattle.std.proofs.lemmas.List.Elements.{All-contains, All-from_recursion}
@@ -25,10 +25,7 @@ use Rattle.eden_overlay.specs.Getting.{Explains}
 use Rattle.eden_overlay.specs.Files.{Stored}
 use Rattle.eden_overlay.specs.Held.{HoldsState, without, root_file, numbers_of, saved_at}
 use Rattle.eden_overlay.specs.Laws.{IsStray}
-use Rattle.eden_overlay.specs.declared.rescan.RescanFault.{RescanFault}
-use Rattle.eden_overlay.specs.declared.rescan.RescanFault.TheVariants as rescan
 use Rattle.eden_overlay.specs.Counting.{root_from}
-use Rattle.eden_overlay.specs.Rescanning.{IsRescanFault, Accuses}
 use Rattle.eden_overlay.specs.Soundness.{Names, IsLive, HoldsKind, AreSound}
 use Rattle.eden_overlay.proofs.CallerLemmas.{put_here, put_apart, names_moved, same_or_apart, numbers_from_two, live_stay, state_stays, root_same, held_storable}
 use Rattle.eden_tree.specs.Directory.{Row, Directory, child_of}
@@ -46,7 +43,7 @@ use Rattle.eden_checkout.specs.declared.fault.OpenFault.TheVariants as opens
 use Rattle.eden_checkout.specs.declared.opening.Opening.{Opening}
 use Rattle.eden_checkout.specs.declared.opening.Opening.TheVariants as opening
 use Rattle.eden_checkout.specs.declared.opening.Start.{Start}
-use Rattle.eden_checkout.specs.Opening.{files_number, FilesKeep, MayOpen, AreNone, Starts, of_rescan, IsRefusal}
+use Rattle.eden_checkout.specs.Opening.{files_number, FilesKeep, MayOpen, AreNone, Starts, IsListed, IsTwice, IsDamaged, IsRefusal}
 use Rattle.eden_checkout.proofs.Listed.{root_row, RowKeeps, row_keeps, number_is, shown_is}
 
 -- numbers that are shown elsewhere too are backed there
@@ -151,9 +148,9 @@ module _ (root : Id) (F : Stored) (sound : AreSound F) where
     }
 
 module _ (R : Repository) (tree : Tree) (N : Numbers) (root : Id) (F : Stored) (how : Opening) (may : MayOpen how R tree N root F)
-    (start : Start) (starts : Starts how root F start) (most : start.next ≤ number_end) where
+    (start : Start) (starts : Starts how root F start) where
   kept : FilesKeep R tree N root F start.next
-  kept = may.kept start.next starts.next most
+  kept = may.kept start.next starts.next
 
   kept_row : RowKeeps R root F start.next
   kept_row = row_keeps R root F tree N start.next kept
@@ -175,15 +172,6 @@ module _ (R : Repository) (tree : Tree) (N : Numbers) (root : Id) (F : Stored) (
   pub shown_by : shown_in R (without F 0) (fresh_root start.origin) ≡ tree
   shown_by = ap (λ (o : Origin). shown_in R (without F 0) (fresh_root o)) starts.origin ∙ sym (shown_is R root F) ∙ kept.shown
 
--- what a rescan refuses
-pub rescan_refused : (honest : Type 0) (root : Id) (F : Stored) (old new : ℕ) (fault : RescanFault) → IsRescanFault honest F root old new fault
-    → IsRefusal opening.Rescan honest root F old new (of_rescan fault)
-rescan_refused honest root F old new (rescan.Dangling k) why = why
-rescan_refused honest root F old new (rescan.Twice k) why = why
-rescan_refused honest root F old new (rescan.Damaged k refusal) why = why
-rescan_refused honest root F old new rescan.Device rose = rose
-rescan_refused honest root F old new rescan.Memory none = none
-
 -- where the files that were looked at are those that were given, and nothing failed before, so is the refusal
 module _ (honest : Type 0) (F G : Stored) (old looked new : ℕ) (same : honest → G ≡ F) (count : looked ≡ old) where
   pub refused_of : (how : Opening) (root : Id) (fault : OpenFault) → IsRefusal how honest root G looked new fault → IsRefusal how honest root F old new fault
@@ -198,9 +186,11 @@ module _ (honest : Type 0) (F G : Stored) (old looked new : ℕ) (same : honest 
   refused_of opening.Closed root (opens.Twice k) h = h
   refused_of opening.Rescan root opens.NotClean h = h
   refused_of opening.Rescan root (opens.OtherRoot stored) h = h
-  refused_of opening.Rescan root (opens.Damaged k refusal) h = λ outside. subst (λ (H : Stored). Accuses H root (rescan.Damaged k refusal)) (same outside) (h outside)
-  refused_of opening.Rescan root (opens.Dangling k) h = λ outside. subst (λ (H : Stored). Accuses H root (rescan.Dangling k)) (same outside) (h outside)
-  refused_of opening.Rescan root (opens.Twice k) h = λ outside. subst (λ (H : Stored). Accuses H root (rescan.Twice k)) (same outside) (h outside)
+  refused_of opening.Rescan root (opens.Damaged k refusal) h = λ outside. subst (λ (H : Stored). IsDamaged root H k refusal) (same outside) (h outside)
+  refused_of opening.Rescan root (opens.Dangling k) h =
+      λ outside. subst (λ (H : Stored). (e : StoredEntry) × IsListed root H e × (e.number ≡ k) × (e.origin ≡ origin.Own) × (H k ≡ None)) (same outside) (h outside)
+  refused_of opening.Rescan root (opens.Twice k) h =
+      λ outside. subst (λ (H : Stored). IsTwice root H k) (same outside) (h outside)
 
 pub refused_over : (honest : Type 0) (how : Opening) (root : Id) (F G : Stored) (old looked new : ℕ) (fault : OpenFault) → how ≡ opening.Rescan → (honest → G ≡ F) → looked ≡ old
     → IsRefusal opening.Rescan honest root G looked new fault → IsRefusal how honest root F old new fault

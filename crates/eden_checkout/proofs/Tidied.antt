@@ -1,5 +1,5 @@
 -- Files without orphans show the same.
-use Rattle.std.proofs.Common.{◌≡◌, ◌≢◌, ◌≤◌, ℕ, true, false, Option, Some, None, List, [], All, Contains, sym, refl, ◌∙◌, ap, subst, inl, inr, arith}
+use Rattle.std.proofs.Common.{◌≡◌, ◌≢◌, ℕ, true, false, Option, Some, None, List, [], All, Contains, sym, refl, ◌∙◌, ap, subst, inl, inr, arith}
 use Rattle.std.specs.Option.{IsSome, option_and_then}
 use Rattle.std.proofs.lemmas.Option.{same_Some, none-some}
 use Rattle.std.proofs.Math.Path.{fun_ext}
@@ -88,13 +88,13 @@ module _ (F : Stored) (over : Id) (G : Stored) (sound : AreSound F) (stay : Othe
     state_stays_there = stay 0 (λ orphan. let least = orphan.least in absurd (omega (arith, least)))
 
   module _ (lack : LackOrphans F G) (closed : IsClosed F) (R : Repository) (tree : Tree) (N : Numbers) (root : Id) (can : CanOpen R tree N root F) where
-    still_kept : (next : ℕ) → Finds opening.Closed root G next → next ≤ number_end → FilesKeep R tree N root G next
-    still_kept next (inl at) most =
+    still_kept : (next : ℕ) → Finds opening.Closed root G next → FilesKeep R tree N root G next
+    still_kept next (inl at) =
         let same = none_before closed at.0 in
-        subst (λ (H : Stored). FilesKeep R tree N root H next) (sym same) (can.kept next (inl (subst AreNone same at.0, at.1)) most)
-    still_kept next (inr held) most =
+        subst (λ (H : Stored). FilesKeep R tree N root H next) (sym same) (can.kept next (inl (subst AreNone same at.0, at.1)))
+    still_kept next (inr held) =
         let before = held_before (record { root = root; next = next }) held in
-        let keep = can.kept next (inr before) most in
+        let keep = can.kept next (inr before) in
         let row = row_keeps R root F tree N next keep in
         keeps_row R root G tree N next (still_sound F over G stay sound) (shows_same R root ∙ keep.shown)
         (backed_as N (files_number root F) (files_number root G) next keep.backed (numbered_same R root next lack before row))

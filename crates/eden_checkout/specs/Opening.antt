@@ -1,19 +1,19 @@
 -- Files that a checkout is opened over, and why it isn't.
-use Rattle.std.specs.Prelude.{◌≡◌, ◌≢◌, ◌≤◌, ◌⊎◌, ℕ, List, [], ◌∷◌, Option, Some, None, IsSome}
+use Rattle.std.specs.Prelude.{◌≡◌, ◌≢◌, ◌<◌, ◌≤◌, ◌+◌, ◌++◌, ◌⊎◌, ℕ, List, [], ◌∷◌, Option, Some, None, IsSome}
 use Rattle.std.specs.Option.{option_and_then, option_map}
 use Rattle.eden_model.specs.declared.id.Id.{Id}
 use Rattle.eden_model.specs.declared.kind.Kind.TheVariants as kind
 use Rattle.eden_model.specs.declared.kind.Origin.{Origin}
 use Rattle.eden_model.specs.declared.kind.Origin.TheVariants as origin
 use Rattle.eden_model.specs.Failures.{Rose}
-use Rattle.eden_model.specs.Backing.{Backs}
-use Rattle.eden_model.specs.Limits.{number_end}
+use Rattle.eden_model.specs.Backing.{AreShown, Backs}
 use Rattle.eden_model.specs.Named.{named}
 use Rattle.eden_model.specs.Numbers.{Numbering, Numbers}
 use Rattle.eden_model.specs.Repository.{Repository, source_of, entries_with, ground_with}
 use Rattle.eden_model.specs.Shown.{if_dir, shown}
 use Rattle.eden_model.specs.Trees.{Path, Tree}
 use Rattle.eden_overlay_format.specs.declared.header.Identifier.TheVariants as identifier
+use Rattle.eden_overlay_format.specs.declared.refusal.Refusal.{Refusal}
 use Rattle.eden_overlay_format.specs.declared.state.State.{State}
 use Rattle.eden_overlay_format.specs.declared.stored_entry.StoredEntry.{StoredEntry}
 use Rattle.eden_overlay_format.specs.Values.{state_in}
@@ -22,12 +22,12 @@ use Rattle.eden_overlay.specs.declared.files.Files.{Ghosts as Files}
 use Rattle.eden_overlay.specs.declared.files.FilesFault.{FilesFault}
 use Rattle.eden_overlay.specs.declared.files.FilesFault.TheVariants as files
 use Rattle.eden_overlay.specs.Files.{Stored}
-use Rattle.eden_overlay.specs.Getting.{Explains}
+use Rattle.eden_overlay.specs.Getting.{Explains, ExplainsNumbers}
 use Rattle.eden_overlay.specs.Held.{HoldsState, root_file, saved_at, item_of, items_of, own_files}
 use Rattle.eden_overlay.specs.declared.rescan.RescanFault.{RescanFault}
 use Rattle.eden_overlay.specs.declared.rescan.RescanFault.TheVariants as rescan
-use Rattle.eden_overlay.specs.Counting.{root_from, listing_at, NumbersAreSound}
-use Rattle.eden_overlay.specs.Rescanning.{IsNextOf, Accuses}
+use Rattle.eden_overlay.specs.Counting.{root_from, listing_at, HasGoodNumbers}
+use Rattle.eden_overlay.specs.Rescanning.{ExplainsKind, HasNoNext}
 use Rattle.eden_overlay.specs.Soundness.{AreSound}
 use Rattle.eden_inode.specs.Tables.{Table, shows_numbers}
 use Rattle.eden_checkout.specs.declared.fault.OpenFault.{OpenFault}
@@ -56,6 +56,10 @@ listed_at F e (n ∷ p) =
 abbrev pub files_number : Id → Stored → Numbering
 files_number root F = λ p. option_map (λ (e : StoredEntry). e.number) (listed_at F (root_entry root F) p)
 
+-- files list that entry
+abbrev pub IsListed : Id → Stored → StoredEntry → Type 0
+IsListed root F e = (p : Path) × (listed_at F (root_entry root F) p ≡ Some e)
+
 -- ---- what is found
 
 -- the root is the commit's tree, or the mount's own
@@ -65,11 +69,19 @@ IsRootOf root o = (o ≡ origin.Object root) ⊎ (o ≡ origin.Own)
 abbrev pub AreNone : Stored → Type 0
 AreNone F = (k : ℕ) → F k ≡ None
 
--- What is found in files that are opened: the next number, which is that of the state, or where nothing is stored the first; and
--- by a rescan that they are sound, and the numbers in them.
+-- What a rescan finds: no name dangles, what has numbers is in its grammar, none is shown twice, and the next one is above each that
+-- is shown and each file's, and one above one of them.
+pub record IsRescanned (root : Id) (F : Stored) (next : ℕ) : Type 0 where
+  pub sound : AreSound F
+  pub good : (e : StoredEntry) (tree : Id) → IsListed root F e → e.kind ≡ kind.Dir → e.origin ≡ origin.Object tree → HasGoodNumbers (F e.number)
+  pub shown : AreShown (files_number root F) next
+  pub above : (k : ℕ) → IsSome (F k) → k < next
+  pub last : (k : ℕ) × (next ≡ k + 1) × (IsSome (F k) ⊎ ((p : Path) × (files_number root F p ≡ Some k)))
+
+-- what is found in files that are opened: the next number, which is that of the state, or where nothing is stored the first
 abbrev pub Finds : Opening → Id → Stored → ℕ → Type 0
 Finds opening.Closed root F next = (AreNone F × (next ≡ 2)) ⊎ HoldsState F (record { root = root; next = next })
-Finds opening.Rescan root F next = AreSound F × NumbersAreSound F root × IsNextOf F root next
+Finds opening.Rescan root F next = IsRescanned root F next
 
 -- ---- when they may be opened
 
@@ -80,12 +92,12 @@ pub record FilesKeep (R : Repository) (tree : Tree) (N : Numbers) (root : Id) (F
   pub shown : files_show R root F ≡ tree
   pub backed : Backs N (files_number root F) next
   pub blank : (k : ℕ) (id : Id) → next ≤ k → saved_at F k id ≡ None
-  pub listed : (p : Path) (e : StoredEntry) (es : List StoredEntry) → listed_at F (root_entry root F) p ≡ Some e → listing_at F e.number e.origin ≡ Some es
+  pub listed : (e : StoredEntry) (es : List StoredEntry) → IsListed root F e → listing_at F e.number e.origin ≡ Some es
       → entries_with R (own_files F) (source_of e.number e.origin) ≡ Some (items_of es)
 
 -- what is known of the files where the outside is honest: they keep that, with the next number that is found in them
 pub record MayOpen (how : Opening) (R : Repository) (tree : Tree) (N : Numbers) (root : Id) (F : Stored) : Type 0 where
-  pub kept : (next : ℕ) → Finds how root F next → next ≤ number_end → FilesKeep R tree N root F next
+  pub kept : (next : ℕ) → Finds how root F next → FilesKeep R tree N root F next
 
 -- .. where they were closed
 abbrev pub CanOpen : Repository → Tree → Numbers → Id → Stored → Type 0
@@ -123,6 +135,24 @@ of_rescan (rescan.Damaged k refusal) = opens.Damaged k refusal
 of_rescan rescan.Device = opens.Device
 of_rescan rescan.Memory = opens.Memory
 
+-- the directory of that number lists the entry
+abbrev pub IsListedIn : Id → Stored → ℕ → StoredEntry → Type 0
+IsListedIn root F d e = (p : Path) × (files_number root F p ≡ Some d) × (listed_at F (root_entry root F) (p ++ e.name ∷ []) ≡ Some e)
+
+-- two entries have the number, or one in two directories
+abbrev pub IsTwice : Id → Stored → ℕ → Type 0
+IsTwice root F k = (c : ℕ) × (d : ℕ) × (e : StoredEntry) × (f : StoredEntry) × IsListedIn root F c e × IsListedIn root F d f
+    × (e.number ≡ k) × (f.number ≡ k) × (¬ ((c ≡ d) × (e ≡ f)))
+
+-- The file of an entry that files list is refused, as its own of its kind or as its numbers; or no number is left above that of a
+-- file, which is told as a bad body of the root's.
+abbrev pub IsDamaged : Id → Stored → ℕ → Refusal → Type 0
+IsDamaged root F k refusal =
+    ((e : StoredEntry) × IsListed root F e × (e.number ≡ k) × (e.origin ≡ origin.Own) × ExplainsKind F k e.kind (get.Damaged refusal))
+    ⊎ ((e : StoredEntry) × (tree : Id) × IsListed root F e × (e.number ≡ k) × (e.kind ≡ kind.Dir) × (e.origin ≡ origin.Object tree)
+    × ExplainsNumbers tree (F k) (get.Damaged refusal))
+    ⊎ HasNoNext F k refusal
+
 -- It isn't opened so, for that fault: a rescan tells the first thing that was met from file 1 down. F are the files, and the counts are
 -- those of the device's failures before and then.
 abbrev pub IsRefusal : Opening → Type 0 → Id → Stored → ℕ → ℕ → OpenFault → Type 0
@@ -131,7 +161,8 @@ IsRefusal how honest root F old new opens.Memory = Unit {0}
 IsRefusal opening.Closed honest root F old new opens.NotClean = honest → (F 0 ≡ None) × ((k : ℕ) × IsSome (F k))
 IsRefusal opening.Closed honest root F old new (opens.OtherRoot stored) = (stored ≢ root) × (honest → (s : State) × (HoldsState F s × (s.root ≡ stored)))
 IsRefusal opening.Closed honest root F old new (opens.Damaged k refusal) = (k ≡ 0) × (honest → Explains identifier.File state_in (F 0) (get.Damaged refusal))
-IsRefusal opening.Rescan honest root F old new (opens.Damaged k refusal) = honest → Accuses F root (rescan.Damaged k refusal)
-IsRefusal opening.Rescan honest root F old new (opens.Dangling k) = honest → Accuses F root (rescan.Dangling k)
-IsRefusal opening.Rescan honest root F old new (opens.Twice k) = honest → Accuses F root (rescan.Twice k)
+IsRefusal opening.Rescan honest root F old new (opens.Damaged k refusal) = honest → IsDamaged root F k refusal
+IsRefusal opening.Rescan honest root F old new (opens.Dangling k) =
+    honest → (e : StoredEntry) × IsListed root F e × (e.number ≡ k) × (e.origin ≡ origin.Own) × (F k ≡ None)
+IsRefusal opening.Rescan honest root F old new (opens.Twice k) = honest → IsTwice root F k
 IsRefusal how honest root F old new fault = ⊥

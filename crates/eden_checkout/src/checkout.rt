@@ -6,8 +6,6 @@ ghost use Rattle.eden_model.specs.Failures.{Rose};
 ghost use Rattle.eden_model.specs.Numbers as numbers;
 ghost use Rattle.eden_overlay.specs.declared.files.FilesFault.TheVariants as fault;
 ghost use Rattle.eden_overlay.specs.Held.{HoldsState, without};
-ghost use Rattle.eden_overlay.specs.Counting.{NumbersAreSound};
-ghost use Rattle.eden_overlay.specs.Rescanning.{IsNextOf};
 ghost use Rattle.eden_overlay.specs.Soundness.{AreSound};
 ghost use Rattle.eden_checkout.specs.declared.opening.Opening.TheVariants as opening;
 ghost use Rattle.eden_checkout.specs.Opening.{CanOpen, MayOpen, Finds, files_show, ShowsNumbersOf};
@@ -102,15 +100,13 @@ impl<A: Allocator + Clone, W: World, F: Files<W>> Checkout<A, W, F> {
         requires files { W.honest
             → MayOpen opening.Rescan W.repository W.opening W.numbers root (F.stored files) }
         requires cache { (cache.objects ≡ []) × (cache.sizes ≡ []) }
-        ensures sound { W.honest → OnOk result (AreSound (F.stored files)) }
         ensures shown { W.honest → IfOk result (λ c. shows W.World F.Files c.inodes ≡ W.opening) }
         ensures numbers { W.honest
             → IfOk result (λ c. ShowsNumbersOf F.Files root (F.stored files) c.inodes) }
         ensures backed { W.honest
             → IfOk result (λ c. Backs W.numbers (shows_numbers F.Files c.inodes) c.inodes.next) }
         ensures stored { W.honest → IfOk result (λ c. F.stored c.inodes.files ≡ without (F.stored files) 0) }
-        ensures once { W.honest → OnOk result (NumbersAreSound (F.stored files) root) }
-        ensures next { W.honest → IfOk result (λ c. IsNextOf (F.stored files) root c.inodes.next) }
+        ensures next { W.honest → IfOk result (λ c. Finds opening.Rescan root (F.stored files) c.inodes.next) }
         ensures fresh { IfOk result
             (λ c. (c.inodes.clock ≡ 0) × ((c.inodes.changes ≡ 0) × ((c.cache ≡ cache) × (c.root ≡ root)))) }
         ensures saved { IfOk result (λ c. AreSaved c.inodes.root) }

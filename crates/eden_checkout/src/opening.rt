@@ -4,11 +4,8 @@ ghost use Rattle.eden_model.specs.declared.id.Id.{Id};
 ghost use Rattle.eden_model.specs.Limits.{number_least, number_end};
 ghost use Rattle.eden_overlay_format.specs.State.{IsGoodState};
 ghost use Rattle.eden_overlay.specs.Held.{HoldsState, without};
-ghost use Rattle.eden_overlay.specs.Counting.{NumbersAreSound};
-ghost use Rattle.eden_overlay.specs.Rescanning.{IsNextOf};
-ghost use Rattle.eden_overlay.specs.Soundness.{AreSound};
 ghost use Rattle.eden_checkout.specs.declared.opening.Opening.TheVariants as opening;
-ghost use Rattle.eden_checkout.specs.Opening.{Starts, IsRootOf, IsRefusal};
+ghost use Rattle.eden_checkout.specs.Opening.{Starts, IsRescanned, IsRootOf, IsRefusal};
 
 use crate::fault::OpenFault;
 use eden_model::{Id, Origin, World};
@@ -91,9 +88,7 @@ fn rescanned<W: World, F: Files<W>>(
     overlay: &mut Overlay<W, F>,
     root: Id,
 ) -> Result<u64, OpenFault>
-    ensures sound { W.honest → OnOk result (AreSound (F.stored overlay.old)) }
-    ensures numbers { W.honest → OnOk result (NumbersAreSound (F.stored overlay.old) root) }
-    ensures next { W.honest → IfOk result (IsNextOf (F.stored overlay.old) root) }
+    ensures found { W.honest → IfOk result (IsRescanned root (F.stored overlay.old)) }
     ensures least { IfOk result (λ next. number_least ≤ next) }
     ensures most { IfOk result (λ next. next ≤ number_end) }
     ensures refused { IfErr result

@@ -7,7 +7,8 @@ use Rattle.eden_overlay.specs.Tidying.{ListsOrphans}
 use Rattle.eden_checkout.specs.declared.opening.Opening.TheVariants as opening
 use Rattle.eden_checkout.specs.Opening.{of_rescan}
 use Rattle.eden_checkout.specs.Tidying.{IsTidyRefusal}
-use Rattle.eden_checkout.proofs.Opened.{handed_up, refused_of, rescan_refused}
+use Rattle.eden_checkout.proofs.Opened.{handed_up, refused_of}
+use Rattle.eden_checkout.proofs.Rescanned.{rescan_refused}
 use Rattle.eden_checkout.proofs.Tidied.{none_stored, none_listed, listed_over}
 use Rattle.eden_checkout.proofs.tidying.closed_orphans.Goals as goal
 
