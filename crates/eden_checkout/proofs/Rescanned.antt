@@ -1,6 +1,7 @@
 -- What a rescan finds and what it accuses, by the entries that files list at paths.
-use Rattle.std.proofs.Common.{◌≡◌, ◌≤◌, ◌++◌, ℕ, Bool, true, false, cond, List, [], ◌∷◌, Contains, map, Option, Some, None, sym, refl, ◌∙◌, ap, subst, inl, inr}
+use Rattle.std.proofs.Common.{◌≡◌, ◌≤◌, ◌+◌, ◌++◌, ◌⊎◌, ℕ, Bool, true, false, cond, List, [], ◌∷◌, Contains, map, Option, Some, None, IsSome, sym, refl, ◌∙◌, ap, subst, inl, inr}
 use Rattle.std.proofs.lemmas.Option.{same_Some, none-some}
+use Rattle.std.proofs.lemmas.List.{append_cancel_right}
 use Rattle.std.specs.Cmp.Lexicographic.{slice_cmp}
 use Rattle.std.specs.List.Sorted.{IsStrictlySortedBy}
 use Rattle.std.specs.Option.{option_map, option_and_then}
@@ -12,7 +13,7 @@ use Rattle.eden_model.specs.declared.kind.Origin.{Origin}
 use Rattle.eden_model.specs.declared.kind.Origin.TheVariants as origin
 use Rattle.eden_model.specs.Backing.{AreShown}
 use Rattle.eden_model.specs.Keys.{same_id}
-use Rattle.eden_model.specs.Limits.{number_end}
+use Rattle.eden_model.specs.Limits.{number_least, number_end}
 use Rattle.eden_model.specs.Named.{named}
 use Rattle.eden_model.specs.Numbers.{Numbering}
 use Rattle.eden_model.specs.Shown.{if_dir}
@@ -28,11 +29,11 @@ use Rattle.eden_overlay_format.proofs.CallerLemmas.{numbers_good}
 use Rattle.eden_overlay.specs.declared.fault.GetFault.TheVariants as get
 use Rattle.eden_overlay.specs.declared.rescan.RescanFault.{RescanFault}
 use Rattle.eden_overlay.specs.declared.rescan.RescanFault.TheVariants as rescan
-use Rattle.eden_overlay.specs.Counting.{root_from, listing_at, ListsEntry, Counts, top, inside, Counted, NumbersAreSound}
+use Rattle.eden_overlay.specs.Counting.{root_from, listing_at, ListsEntry, Counts, top, inside, Counted, HasGoodNumbers, NumbersAreSound}
 use Rattle.eden_overlay.specs.Files.{Stored}
 use Rattle.eden_overlay.specs.Getting.{Explains}
 use Rattle.eden_overlay.specs.Held.{root_file, of_tree, numbers_of, unless_numbers}
-use Rattle.eden_overlay.specs.Rescanning.{IsNextOf, IsDangling, ExplainsKind, IsRescanFault}
+use Rattle.eden_overlay.specs.Rescanning.{IsNextOf, IsOwned, IsDangling, ExplainsKind, IsRescanFault}
 use Rattle.eden_overlay.specs.Rescanning.{IsTwice as IsTwiceThere, IsDamaged as IsDamagedThere}
 use Rattle.eden_overlay.specs.Soundness.{AreSound}
 use Rattle.eden_overlay.proofs.CallerLemmas.{held_storable}
@@ -42,6 +43,7 @@ use Rattle.eden_tree.proofs.CallerLemmas.{find_row-Contains}
 use Rattle.eden_coupling.specs.Numberings.{row_of, row_named}
 use Rattle.eden_coupling.proofs.CallerLemmas.{and_then_some, map_some, contains_mapped, found_shown}
 use Rattle.eden_checkout.specs.declared.opening.Opening.TheVariants as opening
+use Rattle.eden_checkout.specs.Laws.{FindsAsOverlay, AccusesAsOverlay}
 use Rattle.eden_checkout.specs.Opening.{root_entry, listed_at, files_number, IsListed, IsListedIn, IsRescanned, IsTwice, IsDamaged, IsRefusal, of_rescan}
 use Rattle.eden_checkout.proofs.Listed.{root_row, numbers_are, found_there, only_directory}
 
@@ -190,6 +192,66 @@ module _ (root : Id) (F : Stored) where
     ];
   }
 
+  -- .. and back
+
+  same_entry : (m n : Counted F root) → path_of m ≡ path_of n → m.entry ≡ n.entry
+  same_entry m n same = same_Some m.entry n.entry (sym (counted_at m) ∙ ap (listed_at F (root_entry root F)) same ∙ counted_at n)
+
+  same_directory : (m n : Counted F root) → path_of m ≡ path_of n → m.directory ≡ n.directory
+  same_directory m n same =
+      let a = above m in
+      let b = above n in
+      let name = ap (λ (e : StoredEntry). b.path ++ e.name ∷ []) (sym (same_entry m n same)) in
+      let path = append_cancel_right a.path b.path (m.entry.name ∷ []) (same ∙ name) in
+      let entry = same_Some a.entry b.entry (sym a.there ∙ ap (listed_at F (root_entry root F)) path ∙ b.there) in
+      sym a.number ∙ ap (λ (e : StoredEntry). e.number) entry ∙ b.number
+
+  -- what stands below a directory that counts is an entry of one
+  lists_next : (z : StoredEntry) (n : Name) (p : Path) (e : StoredEntry) (s : Step z n p e) → (z.kind ≡ kind.Dir) × ListsEntry F z.number z.origin s.next
+  lists_next z n p e s =
+      let here = only_directory z.kind (listing_at F z.number z.origin) s.entries s.held in
+      (here.0, record { entries = s.entries; held = here.1; there = found_there n s.entries s.next s.found })
+
+  counted_below : (p : Path) (z e : StoredEntry) (n : Name) → (z.kind ≡ kind.Dir → Counts F root z.number z.origin) → listed_at F z (n ∷ p) ≡ Some e
+      → (c : Counted F root) × (c.entry ≡ e)
+  counted_below [] z e n counts at =
+      let s = step z n [] e at in
+      let l = lists_next z n [] e s in
+      (record { directory = z.number; from = z.origin; entry = s.next; counts = counts l.0; listed = l.1 }, same_Some s.next e s.rest)
+  counted_below (m ∷ p) z e n counts at =
+      let s = step z n (m ∷ p) e at in
+      let l = lists_next z n (m ∷ p) e s in
+      counted_below p s.next e m (inside z.number z.origin s.next (counts l.0) l.1) s.rest
+
+  last_as : (next k : ℕ) (p : Path) → next ≡ k + 1 → files_number root F p ≡ Some k
+      → (next ≡ number_least) ⊎ ((n : Counted F root) × (next ≡ n.entry.number + 1)) ⊎ ((j : ℕ) × (IsSome (F j) × (next ≡ j + 1)))
+  last_as next k [] is at = inl (is ∙ ap (λ j. j + 1) (sym (same_Some 1 k at)))
+  last_as next k (n ∷ p) is at =
+      let e = map_some (λ (e : StoredEntry). e.number) (listed_at F (root_entry root F) (n ∷ p)) k (sym at) in
+      let c = counted_below p (root_entry root F) e.0 n (λ dir. top) e.1.0 in
+      inr (inl (c.0, is ∙ ap (λ j. j + 1) (sym (ap (λ (f : StoredEntry). f.number) c.1 ∙ e.1.1))))
+
+  pub rescan_as : (next : ℕ) → IsRescanned root F next → NumbersAreSound F root × IsNextOf F root next
+  rescan_as next r = (
+    record {
+      good = λ d tree counts.
+          let z = counts_at d (origin.Object tree) counts in
+          subst (λ k. HasGoodNumbers (F k)) z.number (r.good z.entry tree (z.path, z.there) z.is_dir z.from);
+      once = λ m n same.
+          let path = r.shown.once (path_of m) (path_of n) m.entry.number (counted_number m) (counted_number n ∙ ap Some (sym same)) in
+          (same_directory m n path, same_entry m n path);
+    },
+    record {
+      below = λ n. r.shown.below (path_of n) n.entry.number (counted_number n);
+      above = r.above;
+      least = r.shown.start;
+      last = elim r.last.2 [
+        | inl file ↦ inr (inr (r.last.0, (file, r.last.1)))
+        | inr at ↦ last_as next r.last.0 at.0 r.last.1 at.1
+      ];
+    },
+  )
+
   -- ---- what is accused
 
   dangling : (k : ℕ) → IsDangling F root k → (e : StoredEntry) × IsListed root F e × (e.number ≡ k) × (e.origin ≡ origin.Own) × (F k ≡ None)
@@ -208,19 +270,22 @@ module _ (root : Id) (F : Stored) where
     t.apart,
   )
 
-  of_root : (f : Option (List ℕ)) (k : ℕ) (refusal : Refusal) → root_file F ≡ f → k ≡ 1 → Explains identifier.Directory entries_in f (get.Damaged refusal) → IsDamaged root F k refusal
-  of_root None k refusal is one why = absurd (why)
-  of_root (Some bytes) k refusal is one why =
-      inl (root_entry root F, ([], refl), sym one, ap (root_from root) is, subst (λ (f : Option (List ℕ)). Explains identifier.Directory entries_in f (get.Damaged refusal)) (sym stored) why)
+  -- the root's file, where it is the mount's own
+  own_root : (f : Option (List ℕ)) → root_file F ≡ f → root_from root f ≡ origin.Own → root_file F ≡ F 1
+  own_root None is own = cc
+  own_root (Some bytes) is own =
+      let at = and_then_some unless_numbers (F 1) bytes is in
+      is ∙ ap Some (sym (plain at.0 (has_numbers at.0) at.1.1)) ∙ sym at.1.0
     where
       plain : (b : List ℕ) (o : Bool) → cond o None (Some b) ≡ Some bytes → b ≡ bytes
       plain b true h = absurd (none-some bytes h)
       plain b false h = same_Some b bytes h
 
-      stored : F k ≡ Some bytes
-      stored =
-          let at = and_then_some unless_numbers (F 1) bytes is in
-          ap F one ∙ at.1.0 ∙ ap Some (plain at.0 (has_numbers at.0) at.1.1)
+  of_root : (f : Option (List ℕ)) (k : ℕ) (refusal : Refusal) → root_file F ≡ f → k ≡ 1 → Explains identifier.Directory entries_in f (get.Damaged refusal) → IsDamaged root F k refusal
+  of_root None k refusal is one why = absurd (why)
+  of_root (Some bytes) k refusal is one why =
+      let stored : F k ≡ Some bytes = ap F one ∙ sym (own_root (Some bytes) is refl) ∙ is in
+      inl (root_entry root F, ([], refl), sym one, ap (root_from root) is, subst (λ (f : Option (List ℕ)). Explains identifier.Directory entries_in f (get.Damaged refusal)) (sym stored) why)
 
   damaged : (k : ℕ) (refusal : Refusal) → IsDamagedThere F root k refusal → IsDamaged root F k refusal
   damaged k refusal (inl none) = of_root (root_file F) k refusal refl none.0 none.1
@@ -237,6 +302,92 @@ module _ (root : Id) (F : Stored) where
       let z = counts_at k (origin.Object bad.tree) bad.counts in
       inr (inl (z.entry, bad.tree, (z.path, z.there), z.number, z.is_dir, z.from, bad.why))
   damaged k refusal (inr (inr (inr none))) = inr (inr none)
+
+  -- .. and back
+
+  counted_on : (e : StoredEntry) (n : Name) (p : Path) → listed_at F (root_entry root F) (n ∷ p) ≡ Some e → (c : Counted F root) × (c.entry ≡ e)
+  counted_on e n p at = counted_below p (root_entry root F) e n (λ dir. top) at
+
+  no_root : (f : Option (List ℕ)) → root_file F ≡ f → root_from root f ≡ origin.Own → F 1 ≡ None → ⊥
+  no_root None is own absent = cc
+  no_root (Some bytes) is own absent = none-some bytes (sym (ap (option_and_then unless_numbers) absent) ∙ is)
+
+  owned_as : (k : ℕ) (e : StoredEntry) (c : Counted F root) → c.entry ≡ e → e.number ≡ k → e.origin ≡ origin.Own → IsOwned F root k e.kind
+  owned_as k e c is number own = record {
+    place = c;
+    has_number = ap (λ (f : StoredEntry). f.number) is ∙ number;
+    has_kind = ap (λ (f : StoredEntry). f.kind) is;
+    is_own = ap (λ (f : StoredEntry). f.origin) is ∙ own;
+  }
+
+  dangling_as : (k : ℕ) (e : StoredEntry) (p : Path) → listed_at F (root_entry root F) p ≡ Some e → e.number ≡ k → e.origin ≡ origin.Own → F k ≡ None → IsDangling F root k
+  dangling_as k e [] at number own absent =
+      let is = same_Some (root_entry root F) e at in
+      absurd (no_root (root_file F) refl (ap (λ (f : StoredEntry). f.origin) is ∙ own) (ap F (ap (λ (f : StoredEntry). f.number) is ∙ number) ∙ absent))
+  dangling_as k e (n ∷ p) at number own absent =
+      let c = counted_on e n p at in
+      record { wanted = e.kind; owned = owned_as k e c.0 c.1 number own; absent = absent }
+
+  split : (p : Path) (x e : StoredEntry) (n : Name) → listed_at F x (p ++ n ∷ []) ≡ Some e
+      → (z : StoredEntry) × (listed_at F x p ≡ Some z) × (listed_at F z (n ∷ []) ≡ Some e)
+  split [] x e n at = (x, refl, at)
+  split (m ∷ p) x e n at =
+      let s = step x m (p ++ n ∷ []) e at in
+      let r = split p s.next e n s.rest in
+      (r.0, stepped x m p r.0 (record { entries = s.entries; held = s.held; next = s.next; found = s.found; rest = r.1 }), r.2)
+
+  counted_as : (d : ℕ) (e : StoredEntry) → IsListedIn root F d e → (c : Counted F root) × (c.directory ≡ d) × (c.entry ≡ e)
+  counted_as d e at =
+      let z = split at.0 (root_entry root F) e e.name at.2 in
+      let s = step z.0 e.name [] e z.2 in
+      let l = lists_next z.0 e.name [] e s in (
+        record { directory = z.0.number; from = z.0.origin; entry = s.next; counts = counts_there at.0 (root_entry root F) z.0 (λ dir. top) z.1 l.0; listed = l.1 },
+        same_Some z.0.number d (sym (ap (option_map (λ (f : StoredEntry). f.number)) z.1) ∙ at.1),
+        same_Some s.next e s.rest,
+      )
+
+  twice_as : (k : ℕ) → IsTwice root F k → IsTwiceThere F root k
+  twice_as k (c, d, e, f, first, second, one, other, apart) =
+      let a = counted_as c e first in
+      let b = counted_as d f second in
+      record {
+        first = a.0;
+        second = b.0;
+        first_number = ap (λ (g : StoredEntry). g.number) a.2 ∙ one;
+        second_number = ap (λ (g : StoredEntry). g.number) b.2 ∙ other;
+        apart = λ same. apart (sym a.1 ∙ same.0 ∙ b.1, sym a.2 ∙ same.1 ∙ b.2);
+      }
+
+  none_of_kind : (k : ℕ) (refusal : Refusal) (e : StoredEntry) (p : Path) → listed_at F (root_entry root F) p ≡ Some e → e.number ≡ k → e.origin ≡ origin.Own
+      → ExplainsKind F k e.kind (get.Damaged refusal) → IsDamagedThere F root k refusal
+  none_of_kind k refusal e [] at number own why =
+      let is = same_Some (root_entry root F) e at in
+      let one : 1 ≡ k = ap (λ (f : StoredEntry). f.number) is ∙ number in
+      let here : Explains identifier.Directory entries_in (F k) (get.Damaged refusal) =
+      subst (λ (f : StoredEntry). ExplainsKind F k f.kind (get.Damaged refusal)) (sym is) why in
+      let file : root_file F ≡ F k = own_root (root_file F) refl (ap (λ (f : StoredEntry). f.origin) is ∙ own) ∙ ap F one in
+      inl (sym one, subst (λ (f : Option (List ℕ)). Explains identifier.Directory entries_in f (get.Damaged refusal)) (sym file) here)
+  none_of_kind k refusal e (n ∷ p) at number own why =
+      let c = counted_on e n p at in
+      inr (inl (record { wanted = e.kind; owned = owned_as k e c.0 c.1 number own; why = why }))
+
+  damaged_as : (k : ℕ) (refusal : Refusal) → IsDamaged root F k refusal → IsDamagedThere F root k refusal
+  damaged_as k refusal (inl (e, at, number, own, why)) = none_of_kind k refusal e at.0 at.1 number own why
+  damaged_as k refusal (inr (inl (e, tree, at, number, dir, from, why))) =
+      let counts : Counts F root k (origin.Object tree) =
+      subst (λ j. Counts F root j (origin.Object tree)) number (subst (Counts F root e.number) from (counts_there at.0 (root_entry root F) e (λ is. top) at.1 dir)) in
+      inr (inr (inl (record { tree = tree; counts = counts; why = why })))
+  damaged_as k refusal (inr (inr none)) = inr (inr (inr none))
+
+pub accuses_as : AccusesAsOverlay
+accuses_as root F old new (rescan.Dangling k) why = λ h. let d = why h in dangling_as root F k d.0 d.1.0 d.1.1 d.2 d.3 d.4
+accuses_as root F old new (rescan.Twice k) why = λ h. twice_as root F k (why h)
+accuses_as root F old new (rescan.Damaged k refusal) why = λ h. damaged_as root F k refusal (why h)
+accuses_as root F old new rescan.Device rose = rose
+accuses_as root F old new rescan.Memory none = none
+
+pub finds_as : FindsAsOverlay
+finds_as root F next found = rescan_as root F next found
 
 pub rescan_refused : (honest : Type 0) (root : Id) (F : Stored) (old new : ℕ) (fault : RescanFault) → IsRescanFault honest F root old new fault
     → IsRefusal opening.Rescan honest root F old new (of_rescan fault)
