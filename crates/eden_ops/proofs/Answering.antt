@@ -27,7 +27,9 @@ use Rattle.eden_overlay.specs.Files.{Stored}
 use Rattle.eden_cache.specs.Cache.{Cache}
 use Rattle.eden_tree.specs.Directory.{Child, unloaded, loaded, Row}
 use Rattle.eden_tree.specs.Paths.{row_at}
+use Rattle.eden_inode.specs.declared.seen.Seen.{Seen}
 use Rattle.eden_inode.specs.Tables.{Table, shows}
+use Rattle.eden_model.specs.declared.attempt.Attempt.{Attempt}
 use Rattle.eden_model.specs.declared.attempt.Attempt.TheVariants.{Finished}
 use Rattle.eden_ops.specs.declared.answer.Stop.{Stop}
 use Rattle.eden_ops.specs.declared.answer.Stop.TheVariants as stop
@@ -152,10 +154,10 @@ module _ {W F : Type 0} {absent : Reply → Type 0} (w : Ghosts W) (f : Files F 
   lawful fault.Numbers un (inl m) = absurd (no_entry (ask.Kind p) p m.0 refl)
   lawful fault.Numbers un (inr held) = inr (λ r. silent (known t.root) r un, subst (λ (x : Path). WantsNumbers w f x t) (sym (first.at (known t.root) un)) held.1)
 
-  pub first_ended : (z : Stop) → Meets w f p s t d (Err z) → (w.honest → MeetsShown w f p s t (Err z)) → Attempts w f q s t c d (stopped z)
-  first_ended (stop.Errs e) h shown =
+  ended : (z : Stop) → Meets w f p s t d (Err z) → (w.honest → MeetsShown w f p s t (Err z)) → Attempts w f q s t c d (stopped z)
+  ended (stop.Errs e) h shown =
       first_replied (say.Err e) refl (λ G. refl) (λ honest. subst (λ (x : Reach). Table_Meets x absent (here (shows w f s)) (say.Err e)) (sym (shown honest)) refl)
-  first_ended (stop.Needs k) h shown = record {
+  ended (stop.Needs k) h shown = record {
     answer = record {
       need = record {
         silent = λ r. silent (known t.root) r h.0;
@@ -167,7 +169,10 @@ module _ {W F : Type 0} {absent : Reply → Type 0} (w : Ghosts W) (f : Files F 
     };
     cache = cache;
   }
-  first_ended (stop.Faults e) h shown = failed w f q s t c d same cache e (lawful e h.0 h.1)
+  ended (stop.Faults e) h shown = failed w f q s t c d same cache e (lawful e h.0 h.1)
+
+  pub first_ended : (z : Stop) (a : Attempt) → a ≡ stopped z → Meets w f p s t d (Err z) → (w.honest → MeetsShown w f p s t (Err z)) → Attempts w f q s t c d a
+  first_ended z a is h shown = subst (λ (b : Attempt). Attempts w f q s t c d b) (sym is) (ended z h shown)
 
   -- ---- at the path
 
@@ -186,7 +191,7 @@ module _ {W F : Type 0} {absent : Reply → Type 0} (w : Ghosts W) (f : Files F 
   pub faulted : (e : Fault) → IsLawful w f q s t e → Attempts w f q s t c d (Finished (say.Fault e))
   faulted = failed w f q s t c d same cache
 
-  pub walk_ended : (z : Stop) → Meets w f p s t d (Err z) → (w.honest → MeetsShown w f p s t (Err z)) → Attempts w f q s t c d (stopped z)
+  pub walk_ended : (z : Stop) (a : Attempt) → a ≡ stopped z → Meets w f p s t d (Err z) → (w.honest → MeetsShown w f p s t (Err z)) → Attempts w f q s t c d a
   walk_ended = first_ended w f q p here (starts asks) s t c d same keeps cache
 
   pub says_here : (y : Row) → row_at p t.root ≡ Some y → (w.honest → IsShown w.repository (f.stored t.files) (row_at p t.root) (reach (shows w f s) p)) → (r : Reply) → fault_of r ≡ None
@@ -223,12 +228,15 @@ module _ {W F : Type 0} {absent : Reply → Type 0} (w : Ghosts W) (f : Files F 
     lacked (stop.Faults e) other none sized h = faulted e (lawful_here none e other h)
 
 -- nothing is at the path, which is refused
-pub first_absent : {W F : Type 0} (w : Ghosts W) (f : Files F W) (q : Request) (p : Path) (here : Tree → Node → Reply → Type 0) (first : Starts q p (Refuses ENOENT) here) (s t : Table F) (c d : Cache)
-    → (w.honest → shows w f t ≡ shows w f s) → Keeps w f (paths_of q) s t → FindsTheSame c d → (w.honest → MeetsShown w f p s t (Ok None)) → Attempts w f q s t c d (Finished (say.Err ENOENT))
-first_absent w f q p here first s t c d same keeps cache shown =
-    first_replied w f q p here first s t c d same keeps cache (say.Err ENOENT) refl (λ G. refl)
-    (λ honest. subst (λ (x : Reach). Table_Meets x (Refuses ENOENT) (here (shows w f s)) (say.Err ENOENT)) (sym (shown honest)) refl)
+module _ {W F : Type 0} (w : Ghosts W) (f : Files F W) (q : Request) (p : Path) (here : Tree → Node → Reply → Type 0) (s t : Table F) (c d : Cache) (o : Option Seen) (none : o ≡ None)
+    (same : w.honest → shows w f t ≡ shows w f s) (keeps : Keeps w f (paths_of q) s t) (cache : FindsTheSame c d) (shown : w.honest → MeetsShown w f p s t (Ok o)) where
+  nothing : w.honest → MeetsShown w f p s t (Ok None)
+  nothing h = subst (λ (a : Option Seen). MeetsShown w f p s t (Ok a)) none (shown h)
 
-pub says_absent : {W F : Type 0} (w : Ghosts W) (f : Files F W) (q : Request) (p : Path) (here : Tree → Node → Reply → Type 0) (asks : Asks q p here) (s t : Table F) (c d : Cache)
-    → (w.honest → shows w f t ≡ shows w f s) → Keeps w f (paths_of q) s t → FindsTheSame c d → (w.honest → MeetsShown w f p s t (Ok None)) → Attempts w f q s t c d (Finished (say.Err ENOENT))
-says_absent w f q p here asks s t c d same keeps cache shown = first_absent w f q p here (starts asks) s t c d same keeps cache shown
+  pub first_absent : Starts q p (Refuses ENOENT) here → Attempts w f q s t c d (Finished (say.Err ENOENT))
+  first_absent first =
+      first_replied w f q p here first s t c d same keeps cache (say.Err ENOENT) refl (λ G. refl)
+      (λ h. subst (λ (x : Reach). Table_Meets x (Refuses ENOENT) (here (shows w f s)) (say.Err ENOENT)) (sym (nothing h)) refl)
+
+  pub says_absent : Asks q p here → Attempts w f q s t c d (Finished (say.Err ENOENT))
+  says_absent asks = first_absent (starts asks)

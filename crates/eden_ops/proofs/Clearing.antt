@@ -34,7 +34,7 @@ same_above (a ∷ p) (b ∷ q) n m is =
 abbrev numbered : Row → ℕ × Kind
 numbered y = (y.number, y.kind)
 
-module _ (x a : Row) (from to : Path) (may : CanRelocate x from to) (one : StaysToThere from x a) where
+module _ {x a : Row} {from to : Path} (may : CanRelocate x from to) (one : StaysToThere from x a) where
   -- the directory above the other path
   above_still : (q : Path) (m : Name) → to ≡ q ++ m ∷ [] → IsLoadedAt q a
   above_still q m cut = one q (inl (not_front from q m (ap (behind_of from) (sym cut) ∙ may.not_below))) (may.above q m cut)
@@ -46,7 +46,7 @@ module _ (x a : Row) (from to : Path) (may : CanRelocate x from to) (one : Stays
   pub beside_first : StaysBeside from to x a
   beside_first q off other loaded = one q (inl off) loaded
 
-  module _ (b : Row) (two : LetsGo to a b) where
+  module _ {b : Row} (two : LetsGo to a b) where
     pub beside_second : StaysBeside from to x b
     beside_second q off other loaded = loaded_elsewhere to a b two q other (one q (inl off) loaded)
 

@@ -69,10 +69,10 @@ module _ {W F : Type 0} (w : Ghosts W) (f : Files F W) (p : Path) (q : Request) 
   keeps = subst (λ (ps : List Path). Keeps w f ps s t) (sym (file_paths p q asked)) met
 
   pub file_walk : (z : Stop) → Meets w f p s t d (Err z) → (w.honest → MeetsShown w f p s t (Err z)) → Attempts w f q s t c d (stopped z)
-  file_walk z meets shown = walk_ended w f q p (λ G n. OnFile a.file n) a.asks s t c d same keeps cache z meets shown
+  file_walk z meets shown = walk_ended w f q p (λ G n. OnFile a.file n) a.asks s t c d same keeps cache z _ refl meets shown
 
-  pub file_absent : (w.honest → MeetsShown w f p s t (Ok None)) → Attempts w f q s t c d (Finished (say.Err ENOENT))
-  file_absent shown = says_absent w f q p (λ G n. OnFile a.file n) a.asks s t c d same keeps cache shown
+  pub file_absent : (o : Option Seen) → o ≡ None → (w.honest → MeetsShown w f p s t (Ok o)) → Attempts w f q s t c d (Finished (say.Err ENOENT))
+  file_absent o none shown = says_absent w f q p (λ G n. OnFile a.file n) s t c d o none same keeps cache shown a.asks
 
   module _ (o : Option Seen) (seen : Seen) (is : o ≡ Some seen) (meets : Meets w f p s t d (Ok o)) (shown : w.honest → MeetsShown w f p s t (Ok o)) where
     pub file_link : seen.kind ≡ kind.Link → Attempts w f q s t c d (Finished (say.Err EINVAL))
@@ -86,6 +86,9 @@ module _ {W F : Type 0} (w : Ghosts W) (f : Files F W) (p : Path) (q : Request) 
         (λ k b listed here on. on_dir a.file k b listed (dir k here on))
 
 -- ---- the file that was met
+
+pub file_met : (p : Path) (x : Row) (seen : Seen) (file : IsFileSeen p x seen) → IsFileAt p x file.entry.row
+file_met p x seen file = file_at p x x file.entry.row refl file.entry.there (away p x seen file.entry file.away) (subst IsPlain file.entry.kind file.plain)
 
 module _ {W F : Type 0} (w : Ghosts W) (f : Files F W) (p : Path) (s t : Table F) (c d : Cache) (seen : Seen) (file : IsFileSeen p t.root seen)
     (shown : w.honest → IsShown w.repository (f.stored t.files) (row_at p t.root) (reach (shows w f s) p))

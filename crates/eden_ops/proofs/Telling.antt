@@ -1,5 +1,6 @@
 -- What a look answers of the entry that it meets, and of that entry's content.
 use Rattle.std.proofs.Common.{◌≡◌, ◌≢◌, ◌⊎◌, Bool, true, false, List, ℕ, Option, Some, None, Ok, sym, refl, ◌∙◌, ap, subst, inl, inr}
+use Rattle.std.proofs.lemmas.Bool.{false≢true}
 use Rattle.eden_model.specs.declared.id.Key.{Key}
 use Rattle.eden_model.specs.declared.kind.Kind.{Kind}
 use Rattle.eden_model.specs.declared.kind.Kind.TheVariants as kind
@@ -42,6 +43,10 @@ use Rattle.eden_ops.proofs.Steps.{keeps_on}
 pub as_dir : (k : Kind) (seen : Seen) → k ≡ seen.kind → (seen.loaded ≡ true → k ≡ kind.Dir) → (seen.loaded ≡ true) ⊎ (seen.kind ≡ kind.Dir) → k ≡ kind.Dir
 as_dir k seen is told (inl l) = told l
 as_dir k seen is told (inr dir) = is ∙ dir
+
+-- .. also where nothing is loaded
+pub away_dir : (k : Kind) (seen : Seen) → k ≡ seen.kind → seen.loaded ≡ false → (seen.loaded ≡ true) ⊎ (seen.kind ≡ kind.Dir) → k ≡ kind.Dir
+away_dir k seen is away told = as_dir k seen is (λ on. absurd (false≢true (sym away ∙ on))) told
 
 module _ {W F : Type 0} (w : Ghosts W) (f : Files F W) (p : Path) (s t : Table F) (d : Cache) (o : Option Seen) (seen : Seen) (is : o ≡ Some seen) (meets : Meets w f p s t d (Ok o)) where
   abbrev at : IsSeen p t.root seen

@@ -186,22 +186,21 @@ pub record Begins {W F : Type 0} (w : Ghosts W) (f : Files F W) (from to : Path)
   pub keeps : Keeps w f (from ∷ to ∷ []) s t
   pub cache : FindsTheSame c d
 
-pub begins : {W F : Type 0} (w : Ghosts W) (f : Files F W) (from to : Path) (s t : Table F) (c d : Cache) (o : Option Seen) (seen : Seen) (dir : Bool) → o ≡ Some seen → is_root from ≡ false
-    → is_root to ≡ false
-    → Meets w f from s t d (Ok o) → (w.honest → MeetsShown w f from s t (Ok o)) → (w.honest → shows w f t ≡ shows w f s) → Keeps w f (from ∷ []) s t → FindsTheSame c d → IsTold seen dir
-    → Begins w f from to s t c d seen dir
-begins w f from to s t c d o seen dir is root other meets shown same keeps cache told = record {
-  root = root;
-  other = other;
-  at = seen_at w f from s t d o seen is meets;
-  shown = shown_at w f from s t d o seen is shown;
-  told = told;
-  same = same;
-  keeps = keeps_first w f from to s t keeps;
-  cache = cache;
-}
+module _ {W F : Type 0} {w : Ghosts W} {f : Files F W} {from to : Path} {s t : Table F} {c d : Cache} {o : Option Seen} {seen : Seen} {dir : Bool} where
+  pub begins : o ≡ Some seen → is_root from ≡ false → is_root to ≡ false → IsTold seen dir → Keeps w f (from ∷ []) s t → FindsTheSame c d → (w.honest → shows w f t ≡ shows w f s)
+      → Meets w f from s t d (Ok o) → (w.honest → MeetsShown w f from s t (Ok o)) → Begins w f from to s t c d seen dir
+  begins is root other told keeps cache same meets shown = record {
+    root = root;
+    other = other;
+    at = seen_at w f from s t d o seen is meets;
+    shown = shown_at w f from s t d o seen is shown;
+    told = told;
+    same = same;
+    keeps = keeps_first w f from to s t keeps;
+    cache = cache;
+  }
 
-module _ {W F : Type 0} (w : Ghosts W) (f : Files F W) (from to : Path) (s t : Table F) (c d : Cache) (seen : Seen) (dir : Bool) (b : Begins w f from to s t c d seen dir) where
+module _ {W F : Type 0} {w : Ghosts W} {f : Files F W} {from to : Path} {s t : Table F} {c d : Cache} {seen : Seen} {dir : Bool} (b : Begins w f from to s t c d seen dir) where
   abbrev q : Request
   q = ask.Rename from to
 
@@ -216,7 +215,7 @@ module _ {W F : Type 0} (w : Ghosts W) (f : Files F W) (from to : Path) (s t : T
       first_here w f q from (moves from to) starts s t c d b.same b.keeps b.cache b.at.row b.at.there b.shown r plain.fine plain.leaves
       (λ h l. subst (λ (b : Bool). Goes (shows w f s) from to b r) (sym (as_shown h l)) (plain.says (shows w f s)))
 
-  module _ (paths : IsByPaths from to dir None) (u : Table F) (e : Cache) (alike : w.honest → shows w f u ≡ shows w f t) (after : Keeps w f (to ∷ []) t u) (finds : FindsTheSame d e) where
+  module _ (paths : IsByPaths from to dir None) {u : Table F} {e : Cache} (after : Keeps w f (to ∷ []) t u) (finds : FindsTheSame d e) (alike : w.honest → shows w f u ≡ shows w f t) where
     abbrev on : Keeps w f (from ∷ to ∷ []) t u
     on = keeps_second w f from to t u after
 

@@ -11,11 +11,10 @@ use Rattle.eden_coupling.specs.Saving.{IsSavedAbove}
 use Rattle.eden_coupling.proofs.CallerLemmas.{loaded_there}
 use Rattle.eden_inode.specs.declared.seen.Seen.{Seen}
 use Rattle.eden_inode.specs.Tables.{shows}
-use Rattle.eden_materialise.specs.Filing.{node_as, own_row}
-use Rattle.eden_model.specs.declared.attempt.Attempt.{Attempt}
+use Rattle.eden_materialise.specs.Filing.{node_as, own_row, LacksEntry}
 use Rattle.eden_model.specs.declared.attempt.Attempt.TheVariants.{Finished}
 use Rattle.eden_inode.proofs.CallerLemmas.{places_rise}
-use Rattle.eden_ops.specs.Attempts.{Attempts, Meets, MeetsShown, IsShown}
+use Rattle.eden_ops.specs.Attempts.{Meets, MeetsShown, IsShown}
 use Rattle.eden_ops.specs.Keeping.{same}
 use Rattle.eden_ops.specs.Changes.{SameNames}
 use Rattle.eden_ops.specs.Leaving.{AreSavedAbove, given}
@@ -36,14 +35,11 @@ use Rattle.eden_ops.proofs.adding.add.Goals as goal
 
 pub returns-in-Err-clause-attempts : goal.returns-in-Err-clause-attempts
 returns-in-Err-clause-attempts g c q adding =
-    let p = c.args.path.now in
-    let s = c.args.inodes.now in
-    let t = c.meet.new.inodes in
     let e = c.in-Err.ensures in
-    let root = not_root p c.in-Some.above.now c.in-Some.name.now (sym c.as_slice.ensures ∙ c.in-Some.ensures.cases.0) in
-    subst (λ (a : Attempt). Attempts g.W.World g.F.Files q s t c.args.cache.now c.meet.new.cache a) (sym c.ended.ensures)
-    (walk_ended g.W.World g.F.Files q p adds (asked_add p root q c.args.new adding) s t c.args.cache.now c.meet.new.cache e.same
-    (adds_keeps g.W.World g.F.Files p q c.args.new adding s t e.keeps) e.cache c.in-Err.stop e.meets e.shown)
+    walk_ended g.W.World g.F.Files q c.args.path.now adds
+    (asked_add c.args.path.now (not_root c.args.path.now c.in-Some.above.now c.in-Some.name.now (sym c.as_slice.ensures ∙ c.in-Some.ensures.cases.0)) q c.args.new adding) c.args.inodes.now
+    c.meet.new.inodes c.args.cache.now c.meet.new.cache
+    e.same (adds_keeps g.W.World g.F.Files c.args.path.now q c.args.new adding c.args.inodes.now c.meet.new.inodes e.keeps) e.cache c.in-Err.stop _ c.ended.ensures e.meets e.shown
 
 pub returns-in-Err-clause-leaves : goal.returns-in-Err-clause-leaves
 returns-in-Err-clause-leaves g c q adding = leaves_kept g.W.World g.F.Files q c.args.inodes.now c.meet.new.inodes
@@ -112,6 +108,16 @@ returns-in-Ok-clause-attempts g c q adding =
     ∙ put_new G p q c.args.new adding (λ n r. sym (ap (λ (T : Tree). T (p ++ n ∷ r)) (e.same h))
     ∙ absent_alone c.shown_laws.ensures.absent R F p c.in-Some.above.now c.in-Some.name.now t.root (kept_dirs R F t.root t.next (c.holds.ensures.kept h)) split lacks n r))
 
+-- the entry isn't there still, and the directory above it is loaded
+lacks_still : (g : _) (c : goal.In-Ok g) → LacksEntry c.settle.new.inodes.root c.in-Some.above.now c.in-Some.name.now
+lacks_still g c =
+    let p = c.args.path.now in
+    let t = c.meet.new.inodes in
+    let v = c.settle.new.inodes in
+    let alike = c.settle.ensures.settles.alike in
+    let met = subst (λ (o : Option Seen). Meets g.W.World g.F.Files p c.args.inodes.now t c.meet.new.cache (Ok o)) c.in-Ok-None.field-0-is c.in-Ok-None.ensures.meets in
+    lacks_entry p c.in-Some.above.now c.in-Some.name.now v.root (sym c.as_slice.ensures ∙ c.in-Some.ensures.cases.0) (walk_still t.root v.root alike p ∙ met.0) (row_none t.root v.root alike p met.1)
+
 pub returns-in-Ok-clause-leaves : goal.returns-in-Ok-clause-leaves
 returns-in-Ok-clause-leaves g c q adding =
     let x = c.in-Ok.ensures in
@@ -122,8 +128,7 @@ returns-in-Ok-clause-leaves g c q adding =
     let above = c.in-Some.above.now in
     let name = c.in-Some.name.now in
     let st = c.settle.ensures.settles in
-    let met = subst (λ (o : Option Seen). Meets g.W.World g.F.Files p c.args.inodes.now t c.meet.new.cache (Ok o)) c.in-Ok-None.field-0-is c.in-Ok-None.ensures.meets in
-    let lacks = lacks_entry p above name v.root (sym c.as_slice.ensures ∙ c.in-Some.ensures.cases.0) (walk_still t.root v.root st.alike p ∙ met.0) (row_none t.root v.root st.alike p met.1) in
+    let lacks = lacks_still g c in
     let root = root_chained above v.root u.root (λ d. changed_listing d name (Some (own_row v.next c.args.new))) (loaded_there above v.root lacks.row lacks.directory lacks.at lacks.holds) x.ok in
     let counted = no_less (g.F.Files.failures v.files) (g.F.Files.failures u.files) x.counted in
     let l = leaves_by g.F.Files v u x.atomic.stays root x.atomic.marks (one_given v.next u.next x.next) x.atomic.clock counted (places_rise v u x.changes) in
@@ -211,12 +216,10 @@ returns-in-Ok-clause-stamps g c q adding =
     let t = c.meet.new.inodes in
     let v = c.settle.new.inodes in
     let u = c.add_entry.new.inodes in
-    let p = c.args.path.now in
     let above = c.in-Some.above.now in
     let name = c.in-Some.name.now in
     let st = c.settle.ensures.settles in
-    let met = subst (λ (o : Option Seen). Meets g.W.World g.F.Files p c.args.inodes.now t c.meet.new.cache (Ok o)) c.in-Ok-None.field-0-is c.in-Ok-None.ensures.meets in
-    let lacks = lacks_entry p above name v.root (sym c.as_slice.ensures ∙ c.in-Some.ensures.cases.0) (walk_still t.root v.root st.alike p ∙ met.0) (row_none t.root v.root st.alike p met.1) in
+    let lacks = lacks_still g c in
     let none = chained_stamps v.root v.next c.settle.ensures.table above name (Some (own_row v.next c.args.new)) refl lacks.row lacks.directory lacks.at lacks.holds u.root
     (c.in-Ok.ensures.ok lacks.row lacks.directory lacks.at lacks.holds) in
     stamps_then g.W.World g.F.Files q c.args.inodes.now c.meet.new.inodes

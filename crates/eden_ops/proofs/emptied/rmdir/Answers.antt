@@ -1,10 +1,9 @@
-use Rattle.std.proofs.Common.{◌++◌, ◌∷◌, le_trans, ◌≡◌, true, Option, Some, None, Ok, sym, refl, subst, ap, ◌∙◌}
+use Rattle.std.proofs.Common.{◌++◌, ◌∷◌, le_trans, ◌≡◌, true, None, sym, refl, subst, ap, ◌∙◌}
 use Rattle.eden_model.specs.declared.errno.Errno.TheVariants.{EBUSY, ENOTDIR, ENOTEMPTY}
-use Rattle.eden_model.specs.declared.node.Node.{Node}
 use Rattle.eden_model.specs.declared.node.Node.TheVariants.{Dir}
 use Rattle.eden_model.specs.declared.reply.Reply.TheVariants as say
 use Rattle.eden_model.specs.declared.request.Request.TheVariants as ask
-use Rattle.eden_model.specs.Operations.{IfEmpty, Removes}
+use Rattle.eden_model.specs.Operations.{IfEmpty}
 use Rattle.eden_model.specs.Trees.{Tree, Path, reach, graft}
 use Rattle.eden_tree.specs.Directory.{Row}
 use Rattle.eden_tree.specs.Paths.{row_at}
@@ -12,32 +11,27 @@ use Rattle.eden_coupling.specs.Changing.{changed as changed_listing}
 use Rattle.eden_coupling.specs.Chains.{StaysLoaded}
 use Rattle.eden_coupling.specs.Saving.{IsSavedAbove}
 use Rattle.eden_coupling.proofs.CallerLemmas.{map_some}
-use Rattle.eden_inode.specs.declared.seen.Seen.{Seen}
 use Rattle.eden_model.specs.declared.attempt.Attempt.{Attempt}
 use Rattle.eden_model.specs.declared.attempt.Attempt.TheVariants.{Finished}
 use Rattle.eden_inode.specs.Tables.{shows}
-use Rattle.eden_ops.specs.Attempts.{Attempts, MeetsShown}
+use Rattle.eden_ops.specs.Attempts.{Attempts}
 use Rattle.eden_ops.specs.Changes.{SameNames}
 use Rattle.eden_ops.specs.Keeping.{same}
 use Rattle.eden_ops.specs.Known.{known_node, known}
 use Rattle.eden_ops.specs.Letting.{LetsGo}
 use Rattle.eden_ops.specs.Listings.{HasNoEntries, HasEntries}
-use Rattle.eden_ops.proofs.Answering.{walk_ended, says_absent, replied, lacked}
+use Rattle.eden_ops.proofs.Answering.{walk_ended, says_absent, replied}
 use Rattle.eden_ops.proofs.Changing.{not_root, has_entry, put_alone, changed, refused, removes, asks_rmdir, removes_empty, removes_full}
-use Rattle.eden_ops.proofs.Fetching.{away, dir_kind}
 use Rattle.eden_ops.proofs.Finding.{finds_on}
 use Rattle.eden_ops.proofs.Going.{stays_there}
 use Rattle.eden_ops.proofs.Leaving.{leaves_kept, leaves_gone, leaves_removed}
 use Rattle.eden_ops.proofs.Looking.{no_dir, lists_other, lists_away}
-use Rattle.eden_ops.proofs.Reached.{seen_at}
 use Rattle.eden_ops.proofs.Relocation.{above_loaded}
 use Rattle.eden_ops.proofs.Roots.{root_same, root_chained}
-use Rattle.eden_ops.proofs.Rounds.{lacks_since}
 use Rattle.eden_ops.proofs.Saving.{leaves_by, fault_count, no_less}
 use Rattle.eden_ops.proofs.Steps.{keeps_on, keeps_counts}
 use Rattle.eden_ops.proofs.Settled.{row_still, settles_leaves, leaves_then, saved_on}
-use Rattle.eden_ops.proofs.Telling.{met_tells}
-use Rattle.eden_ops.proofs.Walking.{known_unloaded}
+use Rattle.eden_ops.proofs.Telling.{met_tells, content_lacks, away_dir}
 use Rattle.eden_ops.proofs.Stamped.{stamps_on, stamps_same, alike_stamps, left_stamps, chained_stamps, stamps_refused, stamps_then, stamps_kept}
 use Rattle.eden_ops.proofs.Stamps.{walked_on}
 use Rattle.eden_inode.specs.Trails.{Leads}
@@ -51,27 +45,21 @@ use Rattle.eden_ops.proofs.emptied.rmdir.Goals as goal
 
 pub returns-in-Err-clause-attempts : goal.returns-in-Err-clause-attempts
 returns-in-Err-clause-attempts g c =
-    let p = c.args.path.now in
-    let s = c.args.inodes.now in
-    let t = c.meet.new.inodes in
     let e = c.in-Err.ensures in
-    let split = sym c.as_slice.ensures ∙ c.in-Some.ensures.cases.0 in
-    subst (λ (a : Attempt). Attempts g.W.World g.F.Files (ask.Rmdir p) s t c.args.cache.now c.meet.new.cache a) (sym c.ended.ensures)
-    (walk_ended g.W.World g.F.Files (ask.Rmdir p) p (removes p)
-    (asks_rmdir p (not_root p c.in-Some.above.now c.in-Some.name.now split)) s t c.args.cache.now c.meet.new.cache e.same e.keeps e.cache c.in-Err.stop e.meets e.shown)
+    walk_ended g.W.World g.F.Files (ask.Rmdir c.args.path.now) c.args.path.now (removes c.args.path.now)
+    (asks_rmdir c.args.path.now (not_root c.args.path.now c.in-Some.above.now c.in-Some.name.now (sym c.as_slice.ensures ∙ c.in-Some.ensures.cases.0))) c.args.inodes.now c.meet.new.inodes
+    c.args.cache.now c.meet.new.cache
+    e.same e.keeps e.cache c.in-Err.stop _ c.ended.ensures e.meets e.shown
 
 pub returns-in-Err-clause-leaves : goal.returns-in-Err-clause-leaves
 returns-in-Err-clause-leaves g c = leaves_kept g.W.World g.F.Files (ask.Rmdir c.args.path.now) c.args.inodes.now c.meet.new.inodes c.meet.ensures.keeps _
 
 pub returns-in-Ok-None-clause-attempts : goal.returns-in-Ok-None-clause-attempts
 returns-in-Ok-None-clause-attempts g c =
-    let p = c.args.path.now in
-    let s = c.args.inodes.now in
-    let t = c.meet.new.inodes in
     let e = c.in-Ok-None.ensures in
-    let split = sym c.as_slice.ensures ∙ c.in-Some.ensures.cases.0 in
-    says_absent g.W.World g.F.Files (ask.Rmdir p) p (removes p) (asks_rmdir p (not_root p c.in-Some.above.now c.in-Some.name.now split)) s t c.args.cache.now c.meet.new.cache e.same e.keeps e.cache
-    (λ h. subst (λ (o : Option Seen). MeetsShown g.W.World g.F.Files p s t (Ok o)) c.in-Ok-None.field-0-is (e.shown h))
+    says_absent g.W.World g.F.Files (ask.Rmdir c.args.path.now) c.args.path.now (removes c.args.path.now) c.args.inodes.now c.meet.new.inodes c.args.cache.now c.meet.new.cache _
+    c.in-Ok-None.field-0-is e.same e.keeps e.cache e.shown (asks_rmdir c.args.path.now
+    (not_root c.args.path.now c.in-Some.above.now c.in-Some.name.now (sym c.as_slice.ensures ∙ c.in-Some.ensures.cases.0)))
 
 pub returns-in-Ok-None-clause-leaves : goal.returns-in-Ok-None-clause-leaves
 returns-in-Ok-None-clause-leaves g c = leaves_kept g.W.World g.F.Files (ask.Rmdir c.args.path.now) c.args.inodes.now c.meet.new.inodes c.meet.ensures.keeps _
@@ -100,23 +88,14 @@ returns-in-File g c =
 pub returns-in-Err-bring_seen-clause-attempts : goal.returns-in-Err-bring_seen-clause-attempts
 returns-in-Err-bring_seen-clause-attempts g c =
     let p = c.args.path.now in
-    let q = ask.Rmdir p in
-    let s = c.args.inodes.now in
-    let t = c.meet.new.inodes in
-    let u = c.bring_seen.new.inodes in
     let e = c.in-Ok-Some.ensures in
-    let b = c.bring_seen.ensures in
     let z = c.in-Err-bring_seen.ensures in
-    let split = sym c.as_slice.ensures ∙ c.in-Some.ensures.cases.0 in
-    let seen = seen_at g.W.World g.F.Files p s t c.meet.new.cache _ c.in-Ok-Some.seen c.in-Ok-Some.field-0-is e.meets in
-    let at : row_at p u.root ≡ Some seen.row = ap (row_at p) z.still ∙ seen.there in
-    subst (λ (a : Attempt). Attempts g.W.World g.F.Files q s u c.args.cache.now c.bring_seen.new.cache a) (sym c.ended-in-Err-bring_seen.ensures)
-    (lacked g.W.World g.F.Files q p (removes p) (asks_rmdir p (not_root p c.in-Some.above.now c.in-Some.name.now split)) s u c.args.cache.now c.bring_seen.new.cache (λ h. b.same h ∙ e.same h)
-    (keeps_on g.W.World g.F.Files s t u e.keeps b.keeps)
-    (finds_on c.args.cache.now c.meet.new.cache c.bring_seen.new.cache e.cache b.cache) seen.row at c.in-Err-bring_seen.stop (λ x is. cc)
-    (λ r h. lists_away (IfEmpty (known u.root) p) seen.row.kind None r (dir_kind p t.root c.in-Ok-Some.seen seen z.away (c.what.ensures.dir c.in-Dir.is))
-    (subst (λ (n : Node). Removes (known u.root) p n r) (known_unloaded seen.row (away p t.root c.in-Ok-Some.seen seen z.away)) h)) (λ k is x y. cc)
-    (lacks_since g.W.World g.F.Files p s t u c.bring_seen.new.cache e.keeps c.in-Err-bring_seen.stop z.lacks))
+    subst (λ (a : Attempt). Attempts g.W.World g.F.Files (ask.Rmdir p) c.args.inodes.now c.bring_seen.new.inodes c.args.cache.now c.bring_seen.new.cache a) (sym c.ended-in-Err-bring_seen.ensures)
+    (content_lacks g.W.World g.F.Files p c.args.inodes.now c.meet.new.inodes c.meet.new.cache _ c.in-Ok-Some.seen c.in-Ok-Some.field-0-is e.meets (ask.Rmdir p) (removes p)
+    (asks_rmdir p (not_root p c.in-Some.above.now c.in-Some.name.now (sym c.as_slice.ensures ∙ c.in-Some.ensures.cases.0))) c.args.cache.now
+    e.same e.keeps e.cache e.shown c.bring_seen.new.inodes c.bring_seen.new.cache c.bring_seen.ensures.same c.bring_seen.ensures.keeps z.still c.bring_seen.ensures.cache z.away (λ x is. cc)
+    c.in-Err-bring_seen.stop
+    (λ k a r is none. lists_away (IfEmpty (known c.bring_seen.new.inodes.root) p) k a r (away_dir k c.in-Ok-Some.seen is z.away (c.what.ensures.dir c.in-Dir.is))) (λ k is x y. cc) z.lacks)
 
 pub returns-in-Err-bring_seen-clause-leaves : goal.returns-in-Err-bring_seen-clause-leaves
 returns-in-Err-bring_seen-clause-leaves g c =
@@ -128,17 +107,15 @@ returns-in-Err-bring_seen-clause-leaves g c =
 pub returns-then-not-is_empty-clause-attempts : goal.returns-then-not-is_empty-clause-attempts
 returns-then-not-is_empty-clause-attempts g c =
     let p = c.args.path.now in
-    let s = c.args.inodes.now in
-    let t = c.meet.new.inodes in
     let u = c.bring_seen.new.inodes in
     let e = c.in-Ok-Some.ensures in
     let b = c.bring_seen.ensures in
     let split = sym c.as_slice.ensures ∙ c.in-Some.ensures.cases.0 in
-    let alike : g.W.World.honest → shows g.W.World g.F.Files u ≡ shows g.W.World g.F.Files s = λ h. b.same h ∙ e.same h in
-    replied g.W.World g.F.Files (ask.Rmdir p) p (removes p) (asks_rmdir p (not_root p c.in-Some.above.now c.in-Some.name.now split)) s u c.args.cache.now c.bring_seen.new.cache alike
-    (keeps_on g.W.World g.F.Files s t u e.keeps b.keeps)
+    let alike : g.W.World.honest → shows g.W.World g.F.Files u ≡ shows g.W.World g.F.Files c.args.inodes.now = λ h. b.same h ∙ e.same h in
+    replied g.W.World g.F.Files (ask.Rmdir p) p (removes p) (asks_rmdir p (not_root p c.in-Some.above.now c.in-Some.name.now split)) c.args.inodes.now u c.args.cache.now c.bring_seen.new.cache alike
+    (keeps_on g.W.World g.F.Files c.args.inodes.now c.meet.new.inodes u e.keeps b.keeps)
     (finds_on c.args.cache.now c.meet.new.cache c.bring_seen.new.cache e.cache b.cache) (say.Err ENOTEMPTY) refl (λ T. refl)
-    (λ h. removes_full (shows g.W.World g.F.Files s) p (sym (ap (λ (G : Tree). reach G p) (alike h)) ∙ c.is_empty.ensures.here h)
+    (λ h. removes_full (shows g.W.World g.F.Files c.args.inodes.now) p (sym (ap (λ (G : Tree). reach G p) (alike h)) ∙ c.is_empty.ensures.here h)
     (subst (λ (G : Tree). HasEntries G p) (alike h) (c.if-not-is_empty.ensures.entries h)))
 
 pub returns-then-not-is_empty-clause-leaves : goal.returns-then-not-is_empty-clause-leaves
@@ -150,15 +127,14 @@ returns-then-not-is_empty-clause-leaves g c =
 
 pub returns-in-Err-let_go-clause-attempts : goal.returns-in-Err-let_go-clause-attempts
 returns-in-Err-let_go-clause-attempts g c =
-    let p = c.args.path.now in
     let s = c.args.inodes.now in
     let t = c.meet.new.inodes in
     let u = c.bring_seen.new.inodes in
-    let v = c.let_go.new.inodes in
     let e = c.in-Ok-Some.ensures in
     let b = c.bring_seen.ensures in
     let kept = keeps_on g.W.World g.F.Files s t u e.keeps b.keeps in
-    refused g.W.World g.F.Files (ask.Rmdir p) s u v c.args.cache.now c.bring_seen.new.cache (λ h. b.same h ∙ e.same h) (keeps_counts g.W.World g.F.Files _ s u kept).1.1.1
+    refused g.W.World g.F.Files (ask.Rmdir c.args.path.now) s u c.let_go.new.inodes c.args.cache.now c.bring_seen.new.cache (λ h. b.same h ∙ e.same h)
+    (keeps_counts g.W.World g.F.Files _ s u kept).1.1.1
     (finds_on c.args.cache.now c.meet.new.cache c.bring_seen.new.cache e.cache b.cache) c.in-Err-let_go.fault c.in-Err-let_go.ensures.fault (λ y is. cc) c.let_go.ensures.same
 
 pub returns-in-Err-let_go-clause-leaves : goal.returns-in-Err-let_go-clause-leaves
@@ -179,12 +155,11 @@ returns-in-Err-settle-clause-attempts g c =
     let s = c.args.inodes.now in
     let t = c.meet.new.inodes in
     let u = c.bring_seen.new.inodes in
-    let v = c.let_go.new.inodes in
     let e = c.in-Ok-Some.ensures in
     let b = c.bring_seen.ensures in
     let x = c.in-Err-settle.ensures.settles.readies in
     let counts = (keeps_counts g.W.World g.F.Files _ s u (keeps_on g.W.World g.F.Files s t u e.keeps b.keeps)).1.1.1 in
-    refused g.W.World g.F.Files (ask.Rmdir c.args.path.now) s v c.settle.new.inodes c.args.cache.now c.bring_seen.new.cache (λ h. c.let_go.ensures.same h ∙ b.same h ∙ e.same h)
+    refused g.W.World g.F.Files (ask.Rmdir c.args.path.now) s c.let_go.new.inodes c.settle.new.inodes c.args.cache.now c.bring_seen.new.cache (λ h. c.let_go.ensures.same h ∙ b.same h ∙ e.same h)
     (le_trans counts c.let_go.ensures.counted)
     (finds_on c.args.cache.now c.meet.new.cache c.bring_seen.new.cache e.cache b.cache) c.in-Err-settle.fault x.fault (λ y is. cc) x.shown
 

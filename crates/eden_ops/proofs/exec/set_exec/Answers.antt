@@ -13,7 +13,7 @@ use Rattle.eden_model.specs.Trees.{Tree, Path, graft}
 use Rattle.eden_overlay.specs.Held.{own_files}
 use Rattle.eden_tree.specs.Paths.{row_at}
 use Rattle.eden_coupling.specs.Changing.{changed as changed_listing}
-use Rattle.eden_coupling.specs.Filing.{leaf, content_shown}
+use Rattle.eden_coupling.specs.Filing.{leaf, content_shown, HasFile}
 use Rattle.eden_coupling.specs.Saving.{IsSavedAbove}
 use Rattle.eden_coupling.proofs.CallerLemmas.{loaded_there}
 use Rattle.eden_inode.specs.Tables.{shows}
@@ -179,10 +179,21 @@ returns-in-Err-set_kind-clause-attempts g c =
 pub returns-in-Err-clause-leaves : goal.returns-in-Err-clause-leaves
 returns-in-Err-clause-leaves g c = leaves_kept g.W.World g.F.Files (ask.SetExec c.args.path.now c.args.exec) c.args.inodes.now c.meet_file.new.inodes c.meet_file.ensures.keeps _
 
+-- the file is there still, in a directory that is loaded
+has_still : (g : _) (c : goal.In-Ok-set_kind g) → HasFile c.settle.new.inodes.root c.in-Some.above.now c.in-Some.name.now c.in-Ok.ensures.file.entry.row
+has_still g c =
+    let t = c.meet_file.new.inodes in
+    let v = c.settle.new.inodes in
+    let p = c.args.path.now in
+    let file = c.in-Ok.ensures.file in
+    let seen = file.entry in
+    let off = away p t.root c.in-Ok.seen seen file.away in
+    has_file p c.in-Some.above.now c.in-Some.name.now v.root seen.row (sym c.as_slice-2.ensures ∙ c.in-Some.ensures.cases.0)
+    (row_still t.root v.root c.settle.ensures.settles.alike p seen.row seen.there off) off (plain_other seen.row.kind (subst IsPlain seen.kind file.plain))
+
 pub returns-in-Ok-set_kind-clause-leaves : goal.returns-in-Ok-set_kind-clause-leaves
 returns-in-Ok-set_kind-clause-leaves g c =
     let x = c.in-Ok-set_kind.ensures in
-    let e = c.in-Ok.ensures in
     let p = c.args.path.now in
     let t = c.meet_file.new.inodes in
     let v = c.settle.new.inodes in
@@ -190,11 +201,8 @@ returns-in-Ok-set_kind-clause-leaves g c =
     let st = c.settle.ensures.settles in
     let above = c.in-Some.above.now in
     let name = c.in-Some.name.now in
-    let seen = e.file.entry in
-    let plain = subst IsPlain seen.kind e.file.plain in
-    let off = away p t.root c.in-Ok.seen seen e.file.away in
-    let still = row_still t.root v.root st.alike p seen.row seen.there off in
-    let has = has_file p above name v.root seen.row (sym c.as_slice-2.ensures ∙ c.in-Some.ensures.cases.0) still off (plain_other seen.row.kind plain) in
+    let seen = c.in-Ok.ensures.file.entry in
+    let has = has_still g c in
     let root = root_chained above v.root u.root (λ d. changed_listing d name (Some (of_kind c.exec_kind-kind.result seen.row)))
     (loaded_there above v.root has.row has.directory has.at has.holds) (x.ok seen.row has) in
     let l = leaves_by g.F.Files v u x.atomic.stays root x.atomic.marks (no_less v.next u.next x.next) x.atomic.clock (no_less (g.F.Files.failures v.files) (g.F.Files.failures u.files) x.counted)
@@ -233,20 +241,15 @@ returns-in-Err-settle-clause-stamps g c =
 
 pub returns-in-Ok-set_kind-clause-stamps : goal.returns-in-Ok-set_kind-clause-stamps
 returns-in-Ok-set_kind-clause-stamps g c =
-    let e = c.in-Ok.ensures in
-    let p = c.args.path.now in
     let t = c.meet_file.new.inodes in
     let v = c.settle.new.inodes in
     let u = c.set_kind.new.inodes in
     let st = c.settle.ensures.settles in
     let above = c.in-Some.above.now in
     let name = c.in-Some.name.now in
-    let seen = e.file.entry in
-    let plain = subst IsPlain seen.kind e.file.plain in
-    let off = away p t.root c.in-Ok.seen seen e.file.away in
-    let still = row_still t.root v.root st.alike p seen.row seen.there off in
-    let has = has_file p above name v.root seen.row (sym c.as_slice-2.ensures ∙ c.in-Some.ensures.cases.0) still off (plain_other seen.row.kind plain) in
-    let none = chained_stamps v.root v.next c.settle.ensures.table above name (Some (of_kind c.exec_kind-kind.result seen.row)) off has.row has.directory has.at has.holds u.root
+    let seen = c.in-Ok.ensures.file.entry in
+    let has = has_still g c in
+    let none = chained_stamps v.root v.next c.settle.ensures.table above name (Some (of_kind c.exec_kind-kind.result seen.row)) has.unloaded has.row has.directory has.at has.holds u.root
     (c.in-Ok-set_kind.ensures.ok seen.row has has.row has.directory has.at has.holds) in
     stamps_then g.W.World g.F.Files (ask.SetExec c.args.path.now c.args.exec) c.args.inodes.now c.meet_file.new.inodes c.meet_file.ensures.keeps (c.meet_file.ensures.walked, tt) u _
     (stamps_on t.root v.root u.root (alike_stamps t.root v.root st.alike) none)

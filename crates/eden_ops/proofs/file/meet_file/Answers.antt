@@ -1,8 +1,6 @@
-use Rattle.std.proofs.Common.{◌≡◌, ◌≢◌, Option, Ok, subst, ◌∙◌}
+use Rattle.std.proofs.Common.{◌≡◌, ◌≢◌, ◌∙◌}
 use Rattle.eden_model.specs.declared.kind.Kind.{Kind}
 use Rattle.eden_model.specs.declared.kind.Kind.TheVariants as kind
-use Rattle.eden_inode.specs.declared.seen.Seen.{Seen}
-use Rattle.eden_ops.specs.Attempts.{MeetsShown}
 use Rattle.eden_ops.proofs.Filing.{file_walk, file_absent, file_link, file_dir}
 use Rattle.eden_ops.proofs.Steps.{keeps_counts}
 use Rattle.eden_ops.proofs.Telling.{as_dir}
@@ -18,12 +16,8 @@ returns-in-Err-clause-ends g c q asked =
 
 pub returns-in-Ok-None-clause-ends : goal.returns-in-Ok-None-clause-ends
 returns-in-Ok-None-clause-ends g c q asked =
-    let p = c.args.path.now in
-    let s = c.args.inodes.now in
-    let t = c.meet.new.inodes in
     let e = c.in-Ok-None.ensures in
-    file_absent g.W.World g.F.Files p q asked s t c.args.cache.now c.meet.new.cache e.same e.keeps e.cache
-    (λ h. subst (λ (o : Option Seen). MeetsShown g.W.World g.F.Files p s t (Ok o)) c.in-Ok-None.field-0-is (e.shown h))
+    file_absent g.W.World g.F.Files c.args.path.now q asked c.args.inodes.now c.meet.new.inodes c.args.cache.now c.meet.new.cache e.same e.keeps e.cache _ c.in-Ok-None.field-0-is e.shown
 
 pub returns-in-Link-clause-ends : goal.returns-in-Link-clause-ends
 returns-in-Link-clause-ends g c q asked =

@@ -1,4 +1,4 @@
-use Rattle.std.proofs.Common.{◌≡◌, ◌≢◌, ◌⊎◌, false, Option, Ok, sym, refl, subst, ◌∙◌, inl, inr}
+use Rattle.std.proofs.Common.{◌≡◌, ◌≢◌, ◌⊎◌, false, sym, refl, subst, ◌∙◌, inl, inr}
 use Rattle.std.proofs.lemmas.List.{take_all}
 use Rattle.eden_model.specs.declared.errno.Errno.TheVariants.{EINVAL}
 use Rattle.eden_model.specs.declared.kind.Kind.{Kind}
@@ -8,9 +8,8 @@ use Rattle.eden_model.specs.declared.request.Request.TheVariants as ask
 use Rattle.eden_model.specs.Operations.{ReadsLink}
 use Rattle.eden_model.specs.Repository.{source_of, content_with}
 use Rattle.eden_overlay.specs.Held.{own_files}
-use Rattle.eden_inode.specs.declared.seen.Seen.{Seen}
 use Rattle.eden_model.specs.declared.attempt.Attempt.{Attempt}
-use Rattle.eden_ops.specs.Attempts.{Attempts, MeetsShown, shown_node}
+use Rattle.eden_ops.specs.Attempts.{Attempts, shown_node}
 use Rattle.eden_ops.proofs.Answering.{walk_ended, says_absent}
 use Rattle.eden_ops.proofs.Telling.{as_dir, met_content, met_tells, content_tells, content_lacks}
 use Rattle.eden_ops.proofs.Looking.{reads_target, asks_target, target_other, target_some, target_lost}
@@ -36,22 +35,16 @@ dir_not_link k a link = cc
 
 pub returns-in-Err-clause-attempts : goal.returns-in-Err-clause-attempts
 returns-in-Err-clause-attempts g c =
-    let p = c.args.path.now in
-    let s = c.args.inodes.now in
-    let t = c.meet.new.inodes in
     let e = c.in-Err.ensures in
-    subst (λ (a : Attempt). Attempts g.W.World g.F.Files (ask.ReadLink c.args.path.now) s t c.args.cache.now c.meet.new.cache a) (sym c.ended.ensures)
-    (walk_ended g.W.World g.F.Files (ask.ReadLink c.args.path.now) p reads_target
-    (asks_target c.args.path.now) s t c.args.cache.now c.meet.new.cache e.same e.keeps e.cache c.in-Err.stop e.meets e.shown)
+    walk_ended g.W.World g.F.Files (ask.ReadLink c.args.path.now) c.args.path.now reads_target
+    (asks_target c.args.path.now) c.args.inodes.now c.meet.new.inodes c.args.cache.now c.meet.new.cache
+    e.same e.keeps e.cache c.in-Err.stop _ c.ended.ensures e.meets e.shown
 
 pub returns-in-Ok-None-clause-attempts : goal.returns-in-Ok-None-clause-attempts
 returns-in-Ok-None-clause-attempts g c =
-    let p = c.args.path.now in
-    let s = c.args.inodes.now in
-    let t = c.meet.new.inodes in
     let e = c.in-Ok-None.ensures in
-    says_absent g.W.World g.F.Files (ask.ReadLink c.args.path.now) p reads_target (asks_target c.args.path.now) s t c.args.cache.now c.meet.new.cache e.same e.keeps e.cache
-    (λ h. subst (λ (o : Option Seen). MeetsShown g.W.World g.F.Files p s t (Ok o)) c.in-Ok-None.field-0-is (e.shown h))
+    says_absent g.W.World g.F.Files (ask.ReadLink c.args.path.now) c.args.path.now reads_target c.args.inodes.now c.meet.new.inodes c.args.cache.now c.meet.new.cache _
+    c.in-Ok-None.field-0-is e.same e.keeps e.cache e.shown (asks_target c.args.path.now)
 
 pub returns-in-File-clause-attempts : goal.returns-in-File-clause-attempts
 returns-in-File-clause-attempts g c =

@@ -1,32 +1,25 @@
-use Rattle.std.proofs.Common.{◌≡◌, true, Option, Some, None, Ok, sym, refl, subst, ap, ◌∙◌}
+use Rattle.std.proofs.Common.{◌≡◌, true, sym, refl, subst, ap, ◌∙◌}
 use Rattle.std.proofs.lemmas.Bool.{le-ltb, ne_eqb}
 use Rattle.eden_model.specs.declared.errno.Errno.TheVariants.{ENOTDIR}
 use Rattle.eden_model.specs.declared.fault.Fault.TheVariants as fault
-use Rattle.eden_model.specs.declared.node.Node.{Node}
 use Rattle.eden_model.specs.declared.reply.Reply.TheVariants as say
 use Rattle.eden_model.specs.declared.request.Request.TheVariants as ask
 use Rattle.eden_model.specs.Histories.{fault_of}
-use Rattle.eden_model.specs.Operations.{after, IsListing, Lists, ListsSome}
+use Rattle.eden_model.specs.Operations.{after, IsListing, ListsSome}
 use Rattle.eden_model.specs.Trees.{Tree, Here, reach}
 use Rattle.eden_model.specs.declared.node.Node.TheVariants.{Dir}
-use Rattle.eden_tree.specs.Paths.{row_at}
-use Rattle.eden_inode.specs.declared.seen.Seen.{Seen}
 use Rattle.eden_model.specs.declared.attempt.Attempt.{Attempt}
 use Rattle.eden_inode.specs.Tables.{shows}
-use Rattle.eden_ops.specs.Attempts.{Attempts, MeetsShown}
+use Rattle.eden_ops.specs.Attempts.{Attempts}
 use Rattle.eden_ops.specs.Keeping.{same}
 use Rattle.eden_ops.specs.Known.{known}
-use Rattle.eden_ops.proofs.Answering.{walk_ended, says_absent, faulted, replied, lacked}
-use Rattle.eden_ops.proofs.Fetching.{away, dir_kind}
+use Rattle.eden_ops.proofs.Answering.{walk_ended, says_absent, faulted, replied}
 use Rattle.eden_ops.proofs.Finding.{finds_on}
 use Rattle.eden_ops.proofs.Listed.{page_told}
-use Rattle.eden_ops.proofs.Telling.{met_tells}
+use Rattle.eden_ops.proofs.Telling.{met_tells, content_lacks, away_dir}
 use Rattle.eden_ops.proofs.Looking.{no_dir, some_at_most, lists, asks_list, lists_other, lists_away}
-use Rattle.eden_ops.proofs.Reached.{seen_at}
-use Rattle.eden_ops.proofs.Rounds.{lacks_since}
 use Rattle.eden_ops.proofs.Stamps.{walked_on}
 use Rattle.eden_ops.proofs.Steps.{keeps_on}
-use Rattle.eden_ops.proofs.Walking.{known_unloaded}
 use Rattle.eden_inode.specs.Trails.{Leads}
 use Rattle.eden_tree.specs.Directory.{Row}
 use Rattle.eden_ops.proofs.listing.list.Goals as goal
@@ -36,26 +29,19 @@ returns-then-limit-eq0-clause-keeps g c = same
 
 pub returns-in-Err-clause-attempts : goal.returns-in-Err-clause-attempts
 returns-in-Err-clause-attempts g c =
-    let p = c.args.path.now in
-    let q = ask.List p c.args.after.now c.args.limit in
-    let s = c.args.inodes.now in
-    let t = c.meet.new.inodes in
     let e = c.in-Err.ensures in
-    subst (λ (a : Attempt). Attempts g.W.World g.F.Files q s t c.args.cache.now c.meet.new.cache a) (sym c.ended.ensures)
-    (walk_ended g.W.World g.F.Files q p (lists p c.args.after.now c.args.limit)
-    (asks_list p c.args.after.now c.args.limit (ne_eqb c.args.limit 0 c.if-limit-eq0.false) (le-ltb 1000 c.args.limit c.if-limit-gt-MAX_ENTRIES.false)) s t c.args.cache.now c.meet.new.cache e.same
-    e.keeps e.cache c.in-Err.stop e.meets e.shown)
+    walk_ended g.W.World g.F.Files (ask.List c.args.path.now c.args.after.now c.args.limit) c.args.path.now (lists c.args.path.now c.args.after.now c.args.limit)
+    (asks_list c.args.path.now c.args.after.now c.args.limit (ne_eqb c.args.limit 0 c.if-limit-eq0.false) (le-ltb 1000 c.args.limit c.if-limit-gt-MAX_ENTRIES.false)) c.args.inodes.now
+    c.meet.new.inodes c.args.cache.now c.meet.new.cache
+    e.same e.keeps e.cache c.in-Err.stop _ c.ended.ensures e.meets e.shown
 
 pub returns-in-Ok-None-clause-attempts : goal.returns-in-Ok-None-clause-attempts
 returns-in-Ok-None-clause-attempts g c =
-    let p = c.args.path.now in
-    let s = c.args.inodes.now in
-    let t = c.meet.new.inodes in
     let e = c.in-Ok-None.ensures in
-    says_absent g.W.World g.F.Files (ask.List p c.args.after.now c.args.limit) p (lists p c.args.after.now c.args.limit)
-    (asks_list p c.args.after.now c.args.limit (ne_eqb c.args.limit 0 c.if-limit-eq0.false) (le-ltb 1000 c.args.limit c.if-limit-gt-MAX_ENTRIES.false)) s t c.args.cache.now c.meet.new.cache e.same
-    e.keeps e.cache
-    (λ h. subst (λ (o : Option Seen). MeetsShown g.W.World g.F.Files p s t (Ok o)) c.in-Ok-None.field-0-is (e.shown h))
+    says_absent g.W.World g.F.Files (ask.List c.args.path.now c.args.after.now c.args.limit) c.args.path.now (lists c.args.path.now c.args.after.now c.args.limit) c.args.inodes.now
+    c.meet.new.inodes c.args.cache.now c.meet.new.cache _
+    c.in-Ok-None.field-0-is e.same e.keeps e.cache e.shown (asks_list c.args.path.now c.args.after.now c.args.limit (ne_eqb c.args.limit 0 c.if-limit-eq0.false)
+    (le-ltb 1000 c.args.limit c.if-limit-gt-MAX_ENTRIES.false))
 
 pub returns-in-File : goal.returns-in-File
 returns-in-File g c =
@@ -78,24 +64,17 @@ returns-in-File g c =
 pub returns-in-Err-bring_seen-clause-attempts : goal.returns-in-Err-bring_seen-clause-attempts
 returns-in-Err-bring_seen-clause-attempts g c =
     let p = c.args.path.now in
-    let q = ask.List p c.args.after.now c.args.limit in
-    let s = c.args.inodes.now in
-    let t = c.meet.new.inodes in
-    let u = c.bring_seen.new.inodes in
     let e = c.in-Ok-Some.ensures in
-    let b = c.bring_seen.ensures in
     let z = c.in-Err-bring_seen.ensures in
-    let seen = seen_at g.W.World g.F.Files p s t c.meet.new.cache _ c.in-Ok-Some.seen c.in-Ok-Some.field-0-is e.meets in
-    let at : row_at p u.root ≡ Some seen.row = ap (row_at p) z.still ∙ seen.there in
-    subst (λ (a : Attempt). Attempts g.W.World g.F.Files q s u c.args.cache.now c.bring_seen.new.cache a) (sym c.ended-in-Err-bring_seen.ensures)
-    (lacked g.W.World g.F.Files q p (lists p c.args.after.now c.args.limit)
-    (asks_list p c.args.after.now c.args.limit (ne_eqb c.args.limit 0 c.if-limit-eq0.false) (le-ltb 1000 c.args.limit c.if-limit-gt-MAX_ENTRIES.false)) s u c.args.cache.now c.bring_seen.new.cache
-    (λ h. b.same h ∙ e.same h) (keeps_on g.W.World g.F.Files s t u e.keeps b.keeps)
-    (finds_on c.args.cache.now c.meet.new.cache c.bring_seen.new.cache e.cache b.cache) seen.row at c.in-Err-bring_seen.stop (λ x is. cc)
-    (λ r h. lists_away (ListsSome (known u.root) p c.args.after.now c.args.limit) seen.row.kind None r
-    (dir_kind p t.root c.in-Ok-Some.seen seen z.away (c.what.ensures.dir c.in-Dir.is))
-    (subst (λ (n : Node). Lists (known u.root) p c.args.after.now c.args.limit n r) (known_unloaded seen.row (away p t.root c.in-Ok-Some.seen seen z.away)) h)) (λ k is x y. cc)
-    (lacks_since g.W.World g.F.Files p s t u c.bring_seen.new.cache e.keeps c.in-Err-bring_seen.stop z.lacks))
+    subst (λ (a : Attempt). Attempts g.W.World g.F.Files (ask.List p c.args.after.now c.args.limit) c.args.inodes.now c.bring_seen.new.inodes c.args.cache.now c.bring_seen.new.cache a)
+    (sym c.ended-in-Err-bring_seen.ensures)
+    (content_lacks g.W.World g.F.Files p c.args.inodes.now c.meet.new.inodes c.meet.new.cache _ c.in-Ok-Some.seen c.in-Ok-Some.field-0-is e.meets (ask.List p c.args.after.now c.args.limit)
+    (lists p c.args.after.now c.args.limit)
+    (asks_list p c.args.after.now c.args.limit (ne_eqb c.args.limit 0 c.if-limit-eq0.false) (le-ltb 1000 c.args.limit c.if-limit-gt-MAX_ENTRIES.false)) c.args.cache.now
+    e.same e.keeps e.cache e.shown c.bring_seen.new.inodes c.bring_seen.new.cache c.bring_seen.ensures.same c.bring_seen.ensures.keeps z.still c.bring_seen.ensures.cache z.away (λ x is. cc)
+    c.in-Err-bring_seen.stop
+    (λ k a r is none. lists_away (ListsSome (known c.bring_seen.new.inodes.root) p c.args.after.now c.args.limit) k a r (away_dir k c.in-Ok-Some.seen is z.away (c.what.ensures.dir c.in-Dir.is)))
+    (λ k is x y. cc) z.lacks)
 
 pub returns-in-Err-bring_seen-clause-keeps : goal.returns-in-Err-bring_seen-clause-keeps
 returns-in-Err-bring_seen-clause-keeps g c = keeps_on g.W.World g.F.Files c.args.inodes.now c.meet.new.inodes c.bring_seen.new.inodes c.meet.ensures.keeps c.bring_seen.ensures.keeps
@@ -103,14 +82,13 @@ returns-in-Err-bring_seen-clause-keeps g c = keeps_on g.W.World g.F.Files c.args
 pub returns-in-Err-page_at-clause-attempts : goal.returns-in-Err-page_at-clause-attempts
 returns-in-Err-page_at-clause-attempts g c =
     let p = c.args.path.now in
-    let s = c.args.inodes.now in
-    let t = c.meet.new.inodes in
     let u = c.bring_seen.new.inodes in
     let e = c.in-Ok-Some.ensures in
     let b = c.bring_seen.ensures in
     faulted g.W.World g.F.Files (ask.List p c.args.after.now c.args.limit) p (lists p c.args.after.now c.args.limit)
-    (asks_list p c.args.after.now c.args.limit (ne_eqb c.args.limit 0 c.if-limit-eq0.false) (le-ltb 1000 c.args.limit c.if-limit-gt-MAX_ENTRIES.false)) s u c.args.cache.now c.bring_seen.new.cache
-    (λ h. b.same h ∙ e.same h) (keeps_on g.W.World g.F.Files s t u e.keeps b.keeps)
+    (asks_list p c.args.after.now c.args.limit (ne_eqb c.args.limit 0 c.if-limit-eq0.false) (le-ltb 1000 c.args.limit c.if-limit-gt-MAX_ENTRIES.false)) c.args.inodes.now u c.args.cache.now
+    c.bring_seen.new.cache
+    (λ h. b.same h ∙ e.same h) (keeps_on g.W.World g.F.Files c.args.inodes.now c.meet.new.inodes u e.keeps b.keeps)
     (finds_on c.args.cache.now c.meet.new.cache c.bring_seen.new.cache e.cache b.cache) fault.Memory (λ x is. cc)
 
 pub returns-in-Err-page_at-clause-keeps : goal.returns-in-Err-page_at-clause-keeps
@@ -119,19 +97,18 @@ returns-in-Err-page_at-clause-keeps g c = keeps_on g.W.World g.F.Files c.args.in
 pub returns-in-Ok-clause-attempts : goal.returns-in-Ok-clause-attempts
 returns-in-Ok-clause-attempts g c =
     let p = c.args.path.now in
-    let s = c.args.inodes.now in
-    let t = c.meet.new.inodes in
     let u = c.bring_seen.new.inodes in
     let e = c.in-Ok-Some.ensures in
     let b = c.bring_seen.ensures in
     let had = c.in-Ok.ensures in
-    let alike : g.W.World.honest → shows g.W.World g.F.Files u ≡ shows g.W.World g.F.Files s = λ h. b.same h ∙ e.same h in
+    let alike : g.W.World.honest → shows g.W.World g.F.Files u ≡ shows g.W.World g.F.Files c.args.inodes.now = λ h. b.same h ∙ e.same h in
     replied g.W.World g.F.Files (ask.List p c.args.after.now c.args.limit) p (lists p c.args.after.now c.args.limit)
-    (asks_list p c.args.after.now c.args.limit (ne_eqb c.args.limit 0 c.if-limit-eq0.false) (le-ltb 1000 c.args.limit c.if-limit-gt-MAX_ENTRIES.false)) s u c.args.cache.now c.bring_seen.new.cache
-    alike (keeps_on g.W.World g.F.Files s t u e.keeps b.keeps)
+    (asks_list p c.args.after.now c.args.limit (ne_eqb c.args.limit 0 c.if-limit-eq0.false) (le-ltb 1000 c.args.limit c.if-limit-gt-MAX_ENTRIES.false)) c.args.inodes.now u c.args.cache.now
+    c.bring_seen.new.cache
+    alike (keeps_on g.W.World g.F.Files c.args.inodes.now c.meet.new.inodes u e.keeps b.keeps)
     (finds_on c.args.cache.now c.meet.new.cache c.bring_seen.new.cache e.cache b.cache) c.in-Ok.reply (ap fault_of had.is)
     (λ T. ap (after T (ask.List c.args.path.now c.args.after.now c.args.limit)) had.is)
-    (λ h. page_told (shows g.W.World g.F.Files s) p c.args.after.now c.args.limit c.in-Ok.reply had.all had.is (subst (λ (G : Tree). IsListing G p had.all) (alike h) (had.listing h))
+    (λ h. page_told (shows g.W.World g.F.Files c.args.inodes.now) p c.args.after.now c.args.limit c.in-Ok.reply had.all had.is (subst (λ (G : Tree). IsListing G p had.all) (alike h) (had.listing h))
     (subst (λ (G : Tree). reach G p ≡ Here (Dir true)) (alike h) (had.here h)))
 
 pub returns-in-Ok-clause-keeps : goal.returns-in-Ok-clause-keeps

@@ -1,4 +1,4 @@
-use Rattle.std.proofs.Common.{le_trans, ◌≡◌, ◌≢◌, ◌⊎◌, ◌++◌, ◌∷◌, Option, None, Ok, sym, refl, subst, ap, ◌∙◌, inl, inr}
+use Rattle.std.proofs.Common.{le_trans, ◌≡◌, ◌≢◌, ◌⊎◌, ◌++◌, ◌∷◌, None, sym, refl, subst, ap, ◌∙◌, inl, inr}
 use Rattle.eden_model.specs.declared.errno.Errno.TheVariants.{EISDIR}
 use Rattle.eden_model.specs.declared.kind.Kind.{Kind}
 use Rattle.eden_model.specs.declared.kind.Kind.TheVariants as kind
@@ -11,12 +11,10 @@ use Rattle.eden_tree.specs.Directory.{child_of}
 use Rattle.eden_tree.specs.Paths.{row_at}
 use Rattle.eden_coupling.specs.Changing.{changed as changed_listing}
 use Rattle.eden_coupling.specs.Saving.{IsSavedAbove}
-use Rattle.eden_inode.specs.declared.seen.Seen.{Seen}
-use Rattle.eden_model.specs.declared.attempt.Attempt.{Attempt}
 use Rattle.eden_model.specs.declared.attempt.Attempt.TheVariants.{Finished}
 use Rattle.eden_inode.specs.Tables.{shows}
 use Rattle.eden_inode.proofs.CallerLemmas.{places_rise}
-use Rattle.eden_ops.specs.Attempts.{Attempts, MeetsShown, IsShown}
+use Rattle.eden_ops.specs.Attempts.{IsShown}
 use Rattle.eden_ops.specs.Changes.{SameNames}
 use Rattle.eden_ops.specs.Keeping.{same}
 use Rattle.eden_ops.proofs.Answering.{walk_ended, says_absent, says_at}
@@ -41,24 +39,18 @@ file_not_dir told (inr (inr a)) dir = cc
 
 pub returns-in-Err-clause-attempts : goal.returns-in-Err-clause-attempts
 returns-in-Err-clause-attempts g c =
-    let p = c.args.path.now in
-    let s = c.args.inodes.now in
-    let t = c.meet.new.inodes in
     let e = c.in-Err.ensures in
-    let split = sym c.as_slice.ensures ∙ c.in-Some.ensures.cases.0 in
-    subst (λ (a : Attempt). Attempts g.W.World g.F.Files (ask.Unlink p) s t c.args.cache.now c.meet.new.cache a) (sym c.ended.ensures)
-    (walk_ended g.W.World g.F.Files (ask.Unlink p) p unlinks
-    (asks_unlink p (not_root p c.in-Some.above.now c.in-Some.name.now split)) s t c.args.cache.now c.meet.new.cache e.same e.keeps e.cache c.in-Err.stop e.meets e.shown)
+    walk_ended g.W.World g.F.Files (ask.Unlink c.args.path.now) c.args.path.now unlinks
+    (asks_unlink c.args.path.now (not_root c.args.path.now c.in-Some.above.now c.in-Some.name.now (sym c.as_slice.ensures ∙ c.in-Some.ensures.cases.0))) c.args.inodes.now c.meet.new.inodes
+    c.args.cache.now c.meet.new.cache
+    e.same e.keeps e.cache c.in-Err.stop _ c.ended.ensures e.meets e.shown
 
 pub returns-in-Ok-None-clause-attempts : goal.returns-in-Ok-None-clause-attempts
 returns-in-Ok-None-clause-attempts g c =
-    let p = c.args.path.now in
-    let s = c.args.inodes.now in
-    let t = c.meet.new.inodes in
     let e = c.in-Ok-None.ensures in
-    let split = sym c.as_slice.ensures ∙ c.in-Some.ensures.cases.0 in
-    says_absent g.W.World g.F.Files (ask.Unlink p) p unlinks (asks_unlink p (not_root p c.in-Some.above.now c.in-Some.name.now split)) s t c.args.cache.now c.meet.new.cache e.same e.keeps e.cache
-    (λ h. subst (λ (o : Option Seen). MeetsShown g.W.World g.F.Files p s t (Ok o)) c.in-Ok-None.field-0-is (e.shown h))
+    says_absent g.W.World g.F.Files (ask.Unlink c.args.path.now) c.args.path.now unlinks c.args.inodes.now c.meet.new.inodes c.args.cache.now c.meet.new.cache _
+    c.in-Ok-None.field-0-is e.same e.keeps e.cache e.shown (asks_unlink c.args.path.now
+    (not_root c.args.path.now c.in-Some.above.now c.in-Some.name.now (sym c.as_slice.ensures ∙ c.in-Some.ensures.cases.0)))
 
 pub returns-in-Dir-clause-attempts : goal.returns-in-Dir-clause-attempts
 returns-in-Dir-clause-attempts g c =

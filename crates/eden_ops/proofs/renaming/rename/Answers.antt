@@ -1,13 +1,11 @@
-use Rattle.std.proofs.Common.{◌≡◌, ◌≢◌, ◌∷◌, [], Bool, false, Option, Ok, sym, refl, subst, ◌∙◌, arith}
+use Rattle.std.proofs.Common.{◌≡◌, ◌≢◌, ◌∷◌, [], Bool, sym, refl, subst, ◌∙◌, arith}
 use Rattle.eden_model.specs.declared.errno.Errno.TheVariants.{EBUSY}
 use Rattle.eden_model.specs.declared.reply.Reply.{Reply}
 use Rattle.eden_model.specs.declared.reply.Reply.TheVariants as say
 use Rattle.eden_model.specs.declared.request.Request.TheVariants as ask
-use Rattle.eden_model.specs.Paths.{is_root}
-use Rattle.eden_inode.specs.declared.seen.Seen.{Seen}
 use Rattle.eden_model.specs.declared.attempt.Attempt.{Attempt}
 use Rattle.eden_model.specs.declared.attempt.Attempt.TheVariants.{Finished}
-use Rattle.eden_ops.specs.Attempts.{Attempts, MeetsShown}
+use Rattle.eden_ops.specs.Attempts.{Attempts}
 use Rattle.eden_ops.specs.Keeping.{same}
 use Rattle.eden_inode.specs.Trails.{Leads}
 use Rattle.eden_ops.specs.Trails.{walked_of}
@@ -26,91 +24,60 @@ pub returns-in-Err-clause-attempts : goal.returns-in-Err-clause-attempts
 returns-in-Err-clause-attempts g c =
     let from = c.args.from.now in
     let to = c.args.to.now in
-    let s = c.args.inodes.now in
-    let t = c.meet_first.new.inodes in
     let e = c.in-Err.ensures in
-    let root : is_root from ≡ false = sym c.is_root.ensures ∙ c.if-is_root.false in
-    let other : is_root to ≡ false = sym c.is_root-else-is_root.ensures ∙ c.if-is_root-2.false in
-    subst (λ (a : Attempt). Attempts g.W.World g.F.Files (ask.Rename from to) s t c.args.cache.now c.meet_first.new.cache a) (sym c.ended.ensures)
-    (first_ended g.W.World g.F.Files (ask.Rename from to) from (moves from to)
-    (starts_rename from to root other) s t c.args.cache.now c.meet_first.new.cache e.same (keeps_first g.W.World g.F.Files from to s t e.keeps) e.cache c.in-Err.stop e.meets e.shown)
+    first_ended g.W.World g.F.Files (ask.Rename from to) from (moves from to)
+    (starts_rename from to (sym c.is_root.ensures ∙ c.if-is_root.false) (sym c.is_root-else-is_root.ensures ∙ c.if-is_root-2.false)) c.args.inodes.now c.meet_first.new.inodes
+    c.args.cache.now c.meet_first.new.cache e.same (keeps_first g.W.World g.F.Files from to c.args.inodes.now c.meet_first.new.inodes e.keeps) e.cache c.in-Err.stop _ c.ended.ensures e.meets e.shown
 
 pub returns-in-Ok-None-clause-attempts : goal.returns-in-Ok-None-clause-attempts
 returns-in-Ok-None-clause-attempts g c =
     let from = c.args.from.now in
     let to = c.args.to.now in
-    let s = c.args.inodes.now in
-    let t = c.meet_first.new.inodes in
     let e = c.in-Ok-None.ensures in
-    let root : is_root from ≡ false = sym c.is_root.ensures ∙ c.if-is_root.false in
-    let other : is_root to ≡ false = sym c.is_root-else-is_root.ensures ∙ c.if-is_root-2.false in
-    first_absent g.W.World g.F.Files (ask.Rename from to) from (moves from to) (starts_rename from to root other) s t c.args.cache.now c.meet_first.new.cache e.same
-    (keeps_first g.W.World g.F.Files from to s t e.keeps) e.cache
-    (λ h. subst (λ (o : Option Seen). MeetsShown g.W.World g.F.Files from s t (Ok o)) c.in-Ok-None.field-0-is (e.shown h))
+    first_absent g.W.World g.F.Files (ask.Rename from to) from (moves from to) c.args.inodes.now c.meet_first.new.inodes c.args.cache.now c.meet_first.new.cache _ c.in-Ok-None.field-0-is
+    e.same (keeps_first g.W.World g.F.Files from to c.args.inodes.now c.meet_first.new.inodes e.keeps) e.cache e.shown
+    (starts_rename from to (sym c.is_root.ensures ∙ c.if-is_root.false) (sym c.is_root-else-is_root.ensures ∙ c.if-is_root-2.false))
 
 pub returns-in-Some-clause-attempts : goal.returns-in-Some-clause-attempts
 returns-in-Some-clause-attempts g c =
-    let s = c.args.inodes.now in
-    let t = c.meet_first.new.inodes in
     let e = c.in-Ok-Some.ensures in
-    let began = begins g.W.World g.F.Files c.args.from.now c.args.to.now s t c.args.cache.now c.meet_first.new.cache _ c.in-Ok-Some.seen c.is_dir-dir.result c.in-Ok-Some.field-0-is
-    (sym c.is_root.ensures ∙ c.if-is_root.false)
-    (sym c.is_root-else-is_root.ensures ∙ c.if-is_root-2.false) e.meets e.shown e.same e.keeps e.cache c.is_dir-dir.ensures in
-    plain_told g.W.World g.F.Files c.args.from.now c.args.to.now s t c.args.cache.now c.meet_first.new.cache c.in-Ok-Some.seen c.is_dir-dir.result began c.in-Some.reply c.in-Some.ensures.told
+    let b = begins c.in-Ok-Some.field-0-is (sym c.is_root.ensures ∙ c.if-is_root.false) (sym c.is_root-else-is_root.ensures ∙ c.if-is_root-2.false) c.is_dir-dir.ensures e.keeps e.cache
+    e.same e.meets e.shown in
+    plain_told b c.in-Some.reply c.in-Some.ensures.told
 
 pub returns-in-Err-land-clause-attempts : goal.returns-in-Err-land-clause-attempts
 returns-in-Err-land-clause-attempts g c =
-    let s = c.args.inodes.now in
-    let t = c.meet_first.new.inodes in
     let e = c.in-Ok-Some.ensures in
-    let began = begins g.W.World g.F.Files c.args.from.now c.args.to.now s t c.args.cache.now c.meet_first.new.cache _ c.in-Ok-Some.seen c.is_dir-dir.result c.in-Ok-Some.field-0-is
-    (sym c.is_root.ensures ∙ c.if-is_root.false)
-    (sym c.is_root-else-is_root.ensures ∙ c.if-is_root-2.false) e.meets e.shown e.same e.keeps e.cache c.is_dir-dir.ensures in
+    let b = begins c.in-Ok-Some.field-0-is (sym c.is_root.ensures ∙ c.if-is_root.false) (sym c.is_root-else-is_root.ensures ∙ c.if-is_root-2.false) c.is_dir-dir.ensures e.keeps e.cache
+    e.same e.meets e.shown in
     let l = c.in-Err-land.ensures in
-    subst (λ (a : Attempt). Attempts g.W.World g.F.Files (ask.Rename c.args.from.now c.args.to.now) s c.land.new.inodes c.args.cache.now c.land.new.cache a) (sym c.ended-in-Err-land.ensures)
-    (land_stopped g.W.World g.F.Files c.args.from.now c.args.to.now s t c.args.cache.now c.meet_first.new.cache c.in-Ok-Some.seen c.is_dir-dir.result began c.in-None.ensures.told c.land.new.inodes
-    c.land.new.cache l.same l.keeps l.cache c.in-Err-land.stop l.lands l.shown)
+    subst (λ (a : Attempt). Attempts g.W.World g.F.Files (ask.Rename c.args.from.now c.args.to.now) c.args.inodes.now c.land.new.inodes c.args.cache.now c.land.new.cache a)
+    (sym c.ended-in-Err-land.ensures) (land_stopped b c.in-None.ensures.told l.keeps l.cache l.same c.in-Err-land.stop l.lands l.shown)
 
 pub relocate-requires : goal.relocate-requires
 relocate-requires g c =
-    let s = c.args.inodes.now in
-    let t = c.meet_first.new.inodes in
     let e = c.in-Ok-Some.ensures in
-    let began = begins g.W.World g.F.Files c.args.from.now c.args.to.now s t c.args.cache.now c.meet_first.new.cache _ c.in-Ok-Some.seen c.is_dir-dir.result c.in-Ok-Some.field-0-is
-    (sym c.is_root.ensures ∙ c.if-is_root.false)
-    (sym c.is_root-else-is_root.ensures ∙ c.if-is_root-2.false) e.meets e.shown e.same e.keeps e.cache c.is_dir-dir.ensures in
+    let b = begins c.in-Ok-Some.field-0-is (sym c.is_root.ensures ∙ c.if-is_root.false) (sym c.is_root-else-is_root.ensures ∙ c.if-is_root-2.false) c.is_dir-dir.ensures e.keeps e.cache
+    e.same e.meets e.shown in
     let l = c.in-Ok.ensures in
-    record {
-      may = can_go g.W.World g.F.Files c.args.from.now c.args.to.now s t c.args.cache.now c.meet_first.new.cache c.in-Ok-Some.seen c.is_dir-dir.result began c.in-None.ensures.told c.land.new.inodes
-          c.land.new.cache l.same l.keeps l.cache l.lands;
-    }
+    record { may = can_go b c.in-None.ensures.told l.keeps l.cache l.same l.lands }
 
 pub returns-in-Ok-relocate-clause-attempts : goal.returns-in-Ok-relocate-clause-attempts
 returns-in-Ok-relocate-clause-attempts g c =
-    let s = c.args.inodes.now in
-    let t = c.meet_first.new.inodes in
     let e = c.in-Ok-Some.ensures in
-    let began = begins g.W.World g.F.Files c.args.from.now c.args.to.now s t c.args.cache.now c.meet_first.new.cache _ c.in-Ok-Some.seen c.is_dir-dir.result c.in-Ok-Some.field-0-is
-    (sym c.is_root.ensures ∙ c.if-is_root.false)
-    (sym c.is_root-else-is_root.ensures ∙ c.if-is_root-2.false) e.meets e.shown e.same e.keeps e.cache c.is_dir-dir.ensures in
+    let b = begins c.in-Ok-Some.field-0-is (sym c.is_root.ensures ∙ c.if-is_root.false) (sym c.is_root-else-is_root.ensures ∙ c.if-is_root-2.false) c.is_dir-dir.ensures e.keeps e.cache
+    e.same e.meets e.shown in
     let l = c.in-Ok.ensures in
-    went g.W.World g.F.Files c.args.from.now c.args.to.now s t c.args.cache.now c.meet_first.new.cache c.in-Ok-Some.seen c.is_dir-dir.result began c.in-None.ensures.told c.land.new.inodes
-    c.land.new.cache l.same
-    l.keeps l.cache c.relocate.new.inodes l.shown c.in-Ok-relocate.ensures.relocates.ok
+    went b c.in-None.ensures.told l.keeps l.cache l.same c.relocate.new.inodes l.shown c.in-Ok-relocate.ensures.relocates.ok
 
 pub returns-in-Err-relocate-clause-attempts : goal.returns-in-Err-relocate-clause-attempts
 returns-in-Err-relocate-clause-attempts g c =
-    let s = c.args.inodes.now in
-    let t = c.meet_first.new.inodes in
     let e = c.in-Ok-Some.ensures in
-    let began = begins g.W.World g.F.Files c.args.from.now c.args.to.now s t c.args.cache.now c.meet_first.new.cache _ c.in-Ok-Some.seen c.is_dir-dir.result c.in-Ok-Some.field-0-is
-    (sym c.is_root.ensures ∙ c.if-is_root.false)
-    (sym c.is_root-else-is_root.ensures ∙ c.if-is_root-2.false) e.meets e.shown e.same e.keeps e.cache c.is_dir-dir.ensures in
+    let b = begins c.in-Ok-Some.field-0-is (sym c.is_root.ensures ∙ c.if-is_root.false) (sym c.is_root-else-is_root.ensures ∙ c.if-is_root-2.false) c.is_dir-dir.ensures e.keeps e.cache
+    e.same e.meets e.shown in
     let l = c.in-Ok.ensures in
     let x = c.in-Err-relocate.ensures.relocates in
-    stayed g.W.World g.F.Files c.args.from.now c.args.to.now s t c.args.cache.now c.meet_first.new.cache c.in-Ok-Some.seen c.is_dir-dir.result began c.in-None.ensures.told c.land.new.inodes
-    c.land.new.cache
-    l.same l.keeps l.cache c.relocate.new.inodes c.in-Err-relocate.fault x.fault x.err
+    stayed b c.in-None.ensures.told l.keeps l.cache l.same c.relocate.new.inodes c.in-Err-relocate.fault x.fault x.err
 
 pub returns-then-is_root-clause-leaves : goal.returns-then-is_root-clause-leaves
 returns-then-is_root-clause-leaves g c = leaves_kept g.W.World g.F.Files (ask.Rename c.args.from.now c.args.to.now) c.args.inodes.now c.args.inodes.now same _

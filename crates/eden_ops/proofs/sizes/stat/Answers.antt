@@ -1,4 +1,4 @@
-use Rattle.std.proofs.Common.{◌≡◌, ℕ, false, Option, Ok, Err, sym, refl, subst, ap, ◌∙◌, length}
+use Rattle.std.proofs.Common.{◌≡◌, ℕ, false, Err, sym, refl, subst, ap, ◌∙◌, length}
 use Rattle.eden_model.specs.declared.kind.Kind.{Kind}
 use Rattle.eden_model.specs.declared.kind.Kind.TheVariants as kind
 use Rattle.eden_model.specs.declared.reply.Reply.{Reply}
@@ -7,10 +7,9 @@ use Rattle.eden_model.specs.declared.request.Request.TheVariants as ask
 use Rattle.eden_model.specs.Operations.{Stats}
 use Rattle.eden_model.specs.Repository.{source_of, content_with}
 use Rattle.eden_overlay.specs.Held.{own_files}
-use Rattle.eden_inode.specs.declared.seen.Seen.{Seen}
 use Rattle.eden_model.specs.declared.attempt.Attempt.{Attempt}
 use Rattle.eden_model.specs.declared.attempt.Attempt.TheVariants.{Finished}
-use Rattle.eden_ops.specs.Attempts.{Attempts, MeetsShown, shown_node}
+use Rattle.eden_ops.specs.Attempts.{Attempts, shown_node}
 use Rattle.eden_ops.proofs.Answering.{walk_ended, says_absent}
 use Rattle.eden_ops.proofs.Telling.{as_dir, met_content, met_number, met_tells, content_tells, content_lacks}
 use Rattle.eden_ops.proofs.Looking.{no_dir, stats, asks_stat, stats_dir, stats_some, stats_lost}
@@ -22,21 +21,16 @@ use Rattle.eden_ops.proofs.sizes.stat.Goals as goal
 
 pub returns-in-Err-clause-attempts : goal.returns-in-Err-clause-attempts
 returns-in-Err-clause-attempts g c =
-    let p = c.args.path.now in
-    let s = c.args.inodes.now in
-    let t = c.meet.new.inodes in
     let e = c.in-Err.ensures in
-    subst (λ (a : Attempt). Attempts g.W.World g.F.Files (ask.Stat c.args.path.now) s t c.args.cache.now c.meet.new.cache a) (sym c.ended.ensures)
-    (walk_ended g.W.World g.F.Files (ask.Stat c.args.path.now) p stats (asks_stat c.args.path.now) s t c.args.cache.now c.meet.new.cache e.same e.keeps e.cache c.in-Err.stop e.meets e.shown)
+    walk_ended g.W.World g.F.Files (ask.Stat c.args.path.now) c.args.path.now stats
+    (asks_stat c.args.path.now) c.args.inodes.now c.meet.new.inodes c.args.cache.now c.meet.new.cache
+    e.same e.keeps e.cache c.in-Err.stop _ c.ended.ensures e.meets e.shown
 
 pub returns-in-Ok-None-clause-attempts : goal.returns-in-Ok-None-clause-attempts
 returns-in-Ok-None-clause-attempts g c =
-    let p = c.args.path.now in
-    let s = c.args.inodes.now in
-    let t = c.meet.new.inodes in
     let e = c.in-Ok-None.ensures in
-    says_absent g.W.World g.F.Files (ask.Stat c.args.path.now) p stats (asks_stat c.args.path.now) s t c.args.cache.now c.meet.new.cache e.same e.keeps e.cache
-    (λ h. subst (λ (o : Option Seen). MeetsShown g.W.World g.F.Files p s t (Ok o)) c.in-Ok-None.field-0-is (e.shown h))
+    says_absent g.W.World g.F.Files (ask.Stat c.args.path.now) c.args.path.now stats c.args.inodes.now c.meet.new.inodes c.args.cache.now c.meet.new.cache _
+    c.in-Ok-None.field-0-is e.same e.keeps e.cache e.shown (asks_stat c.args.path.now)
 
 pub returns-in-Dir-clause-attempts : goal.returns-in-Dir-clause-attempts
 returns-in-Dir-clause-attempts g c =

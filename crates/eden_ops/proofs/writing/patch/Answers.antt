@@ -1,4 +1,4 @@
-use Rattle.std.proofs.Common.{◌≤◌, ◌<◌, ◌+◌, ◌-◌, false, ◌==◌, ℕ, length, Result, sym, refl, subst, ap, ◌∙◌, arith}
+use Rattle.std.proofs.Common.{◌≤◌, ◌<◌, ◌+◌, ◌-◌, false, ◌==◌, ℕ, length, Result, sym, refl, subst, ap, arith}
 use Rattle.std.proofs.lemmas.Bool.{lt-ltb, le-ltb, ne_eqb}
 use Rattle.std.specs.Option.{option_map}
 use Rattle.eden_model.specs.declared.fault.Fault.{Fault}
@@ -14,9 +14,8 @@ use Rattle.eden_ops.specs.Keeping.{same}
 use Rattle.eden_ops.specs.Refilling.{Fills}
 use Rattle.eden_ops.specs.Requests.{for_patch}
 use Rattle.eden_ops.proofs.Fetching.{has_content}
-use Rattle.eden_ops.proofs.Filing.{file_tells, file_lacks, is_file, file_fills, file_refused}
+use Rattle.eden_ops.proofs.Filing.{file_tells, file_lacks, file_fills, file_refused, file_met}
 use Rattle.eden_ops.proofs.Filled.{writes, asks_patch, writes_none, writes_far, writes_some, writes_lost, writes_nothing}
-use Rattle.eden_ops.proofs.Finding.{finds_same}
 use Rattle.eden_ops.proofs.Looking.{plain_other, not_more}
 use Rattle.eden_ops.proofs.Leaving.{none_given, leaves_kept, leaves_changed}
 use Rattle.eden_ops.proofs.Steps.{keeps_on}
@@ -41,24 +40,18 @@ returns-in-Err-clause-attempts g c =
 
 pub returns-then-count-eq0-clause-attempts : goal.returns-then-count-eq0-clause-attempts
 returns-then-count-eq0-clause-attempts g c =
-    let p = c.args.path.now in
-    let s = c.args.inodes.now in
-    let t = c.meet_file.new.inodes in
-    let d = c.meet_file.new.cache in
     let e = c.in-Ok.ensures in
-    file_tells g.W.World g.F.Files p s t c.args.cache.now d c.in-Ok.seen e.file e.shown e.same e.cache (ask.Patch c.args.path.now c.args.offset c.args.bytes.now) e.keeps
+    file_tells g.W.World g.F.Files c.args.path.now c.args.inodes.now c.meet_file.new.inodes c.args.cache.now c.meet_file.new.cache c.in-Ok.seen e.file e.shown e.same e.cache
+    (ask.Patch c.args.path.now c.args.offset c.args.bytes.now) e.keeps
     (writes c.args.offset c.args.bytes.now) (asks_patch c.args.offset c.args.bytes.now c.args.path.now (le-ltb 1073741824 (length c.args.bytes.now) c.if-count-gt-MAX_FILE.false)) (say.Count 0) refl
-    (writes_nothing p c.args.offset c.args.bytes.now 0 (ap (λ (n : ℕ). n == 0) c.if-count-eq0.true))
+    (writes_nothing c.args.path.now c.args.offset c.args.bytes.now 0 (ap (λ (n : ℕ). n == 0) c.if-count-eq0.true))
     (λ k a l plain. writes_none c.args.offset c.args.bytes.now k a l plain (ap (λ (n : ℕ). n == 0) c.if-count-eq0.true))
 
 pub returns-then-offset-count-clause-attempts : goal.returns-then-offset-count-clause-attempts
 returns-then-offset-count-clause-attempts g c =
-    let p = c.args.path.now in
-    let s = c.args.inodes.now in
-    let t = c.meet_file.new.inodes in
-    let d = c.meet_file.new.cache in
     let e = c.in-Ok.ensures in
-    file_tells g.W.World g.F.Files p s t c.args.cache.now d c.in-Ok.seen e.file e.shown e.same e.cache (ask.Patch c.args.path.now c.args.offset c.args.bytes.now) e.keeps
+    file_tells g.W.World g.F.Files c.args.path.now c.args.inodes.now c.meet_file.new.inodes c.args.cache.now c.meet_file.new.cache c.in-Ok.seen e.file e.shown e.same e.cache
+    (ask.Patch c.args.path.now c.args.offset c.args.bytes.now) e.keeps
     (writes c.args.offset c.args.bytes.now) (asks_patch c.args.offset c.args.bytes.now c.args.path.now (le-ltb 1073741824 (length c.args.bytes.now) c.if-count-gt-MAX_FILE.false)) (say.Err EFBIG) refl
     (λ T. refl)
     (λ k a l plain. writes_far c.args.offset c.args.bytes.now k a l plain (ne_eqb (length c.args.bytes.now) 0 c.if-count-eq0.false)
@@ -71,15 +64,12 @@ refill-requires-clause-content g c =
 
 pub returns-in-Err-refill-clause-attempts : goal.returns-in-Err-refill-clause-attempts
 returns-in-Err-refill-clause-attempts g c =
-    let p = c.args.path.now in
-    let s = c.args.inodes.now in
-    let t = c.meet_file.new.inodes in
-    let d = c.meet_file.new.cache in
     let e = c.in-Ok.ensures in
     let b = c.in-Err-refill.ensures.asks in
-    subst (λ (a : Attempt). Attempts g.W.World g.F.Files (ask.Patch c.args.path.now c.args.offset c.args.bytes.now) s c.refill.new.inodes c.args.cache.now c.refill.new.cache a)
+    subst (λ (a : Attempt). Attempts g.W.World g.F.Files (ask.Patch c.args.path.now c.args.offset c.args.bytes.now) c.args.inodes.now c.refill.new.inodes c.args.cache.now c.refill.new.cache a)
     (sym c.ended-in-Err-refill.ensures)
-    (file_lacks g.W.World g.F.Files p s t c.args.cache.now d c.in-Ok.seen e.file e.shown e.same e.cache (ask.Patch c.args.path.now c.args.offset c.args.bytes.now) e.keeps
+    (file_lacks g.W.World g.F.Files c.args.path.now c.args.inodes.now c.meet_file.new.inodes c.args.cache.now c.meet_file.new.cache c.in-Ok.seen e.file e.shown e.same e.cache
+    (ask.Patch c.args.path.now c.args.offset c.args.bytes.now) e.keeps
     (writes c.args.offset c.args.bytes.now)
     (asks_patch c.args.offset c.args.bytes.now c.args.path.now (le-ltb 1073741824 (length c.args.bytes.now) c.if-count-gt-MAX_FILE.false)) c.refill.new.inodes c.refill.new.cache b.same b.keeps b.still
     c.refill.ensures.cache (λ x is. cc) (λ k x is. cc) c.in-Err-refill.stop
@@ -94,35 +84,24 @@ returns-in-Err-refill-clause-leaves g c =
 
 pub refill-requires-clause-there : goal.refill-requires-clause-there
 refill-requires-clause-there g c =
-    let p = c.args.path.now in
-    let s = c.args.inodes.now in
-    let t = c.meet_file.new.inodes in
-    let d = c.meet_file.new.cache in
-    let e = c.in-Ok.ensures in (
-      e.file.entry.row,
-      is_file g.W.World g.F.Files p s t c.args.cache.now d c.in-Ok.seen e.file e.shown e.same e.cache (ask.Patch c.args.path.now c.args.offset c.args.bytes.now) e.keeps
-          (writes c.args.offset c.args.bytes.now)
-          (asks_patch c.args.offset c.args.bytes.now c.args.path.now (le-ltb 1073741824 (length c.args.bytes.now) c.if-count-gt-MAX_FILE.false)) t d (λ h. refl) same refl (finds_same d),
-    )
+    let file = c.in-Ok.ensures.file in
+    (file.entry.row, file_met c.args.path.now c.meet_file.new.inodes.root c.in-Ok.seen file)
 
 pub returns-in-Ok-stored-clause-attempts : goal.returns-in-Ok-stored-clause-attempts
 returns-in-Ok-stored-clause-attempts g c =
     let r = c.in-Ok-refill.ensures.refills in
     let x =
     subst (λ (a : Result (Unit {0}) Fault). Fills g.W.World g.F.Files c.args.path.now r.table c.refill.new.inodes (written c.args.offset c.args.bytes.now r.content) a) c.in-Ok-stored.is r.fills in
-    let p = c.args.path.now in
-    let s = c.args.inodes.now in
-    let t = c.meet_file.new.inodes in
-    let d = c.meet_file.new.cache in
     let e = c.in-Ok.ensures in
     let b = r.asks in
-    file_fills g.W.World g.F.Files p s t c.args.cache.now d c.in-Ok.seen e.file e.shown e.same e.cache (ask.Patch c.args.path.now c.args.offset c.args.bytes.now) e.keeps
+    file_fills g.W.World g.F.Files c.args.path.now c.args.inodes.now c.meet_file.new.inodes c.args.cache.now c.meet_file.new.cache c.in-Ok.seen e.file e.shown e.same e.cache
+    (ask.Patch c.args.path.now c.args.offset c.args.bytes.now) e.keeps
     (writes c.args.offset c.args.bytes.now)
     (asks_patch c.args.offset c.args.bytes.now c.args.path.now (le-ltb 1073741824 (length c.args.bytes.now) c.if-count-gt-MAX_FILE.false)) r.table c.refill.new.cache b.same b.keeps b.still
     c.refill.ensures.cache c.refill.new.inodes (option_map (written c.args.offset c.args.bytes.now))
     (written c.args.offset c.args.bytes.now r.content) (say.Count (length c.args.bytes.now)) refl (λ T. refl)
     (λ h. ap (option_map (written c.args.offset c.args.bytes.now)) (r.is.shown h e.file.entry.row e.file.entry.there))
-    (λ h l plain. writes_some c.args.offset c.args.bytes.now e.file.entry.row.kind (content_shown g.W.World.repository (g.F.Files.stored t.files) e.file.entry.row) l plain
+    (λ h l plain. writes_some c.args.offset c.args.bytes.now e.file.entry.row.kind (content_shown g.W.World.repository (g.F.Files.stored c.meet_file.new.inodes.files) e.file.entry.row) l plain
     (ne_eqb (length c.args.bytes.now) 0 c.if-count-eq0.false)
     (le-ltb 1073741824 (c.args.offset + length c.args.bytes.now) (within c.args.offset (length c.args.bytes.now) c.if-count-gt-MAX_FILE.false c.if-offset-count.false)) r.content
     (r.is.shown h e.file.entry.row e.file.entry.there)) x.shown
@@ -132,13 +111,10 @@ returns-in-Err-stored-clause-attempts g c =
     let r = c.in-Ok-refill.ensures.refills in
     let x =
     subst (λ (a : Result (Unit {0}) Fault). Fills g.W.World g.F.Files c.args.path.now r.table c.refill.new.inodes (written c.args.offset c.args.bytes.now r.content) a) c.in-Err-stored.is r.fills in
-    let p = c.args.path.now in
-    let s = c.args.inodes.now in
-    let t = c.meet_file.new.inodes in
-    let d = c.meet_file.new.cache in
     let e = c.in-Ok.ensures in
     let b = r.asks in
-    file_refused g.W.World g.F.Files p s t c.args.cache.now d c.in-Ok.seen e.file e.shown e.same e.cache (ask.Patch c.args.path.now c.args.offset c.args.bytes.now) e.keeps
+    file_refused g.W.World g.F.Files c.args.path.now c.args.inodes.now c.meet_file.new.inodes c.args.cache.now c.meet_file.new.cache c.in-Ok.seen e.file e.shown e.same e.cache
+    (ask.Patch c.args.path.now c.args.offset c.args.bytes.now) e.keeps
     (writes c.args.offset c.args.bytes.now)
     (asks_patch c.args.offset c.args.bytes.now c.args.path.now (le-ltb 1073741824 (length c.args.bytes.now) c.if-count-gt-MAX_FILE.false)) r.table c.refill.new.cache b.same b.keeps b.still
     c.refill.ensures.cache c.refill.new.inodes c.in-Err-stored.fault x.fault (λ y is. cc) x.unseen

@@ -13,7 +13,7 @@ use Rattle.eden_ops.specs.Keeping.{same}
 use Rattle.eden_ops.specs.Refilling.{Fills}
 use Rattle.eden_ops.specs.Requests.{for_truncate}
 use Rattle.eden_ops.proofs.Fetching.{has_content}
-use Rattle.eden_ops.proofs.Filing.{file_tells, file_lacks, is_file, file_fills, file_refused}
+use Rattle.eden_ops.proofs.Filing.{file_tells, file_lacks, file_fills, file_refused, file_met}
 use Rattle.eden_ops.proofs.Filled.{truncates, asks_truncate, truncates_far, truncates_none, truncates_some, truncates_lost, truncated_none, truncated_some}
 use Rattle.eden_ops.proofs.Finding.{finds_same}
 use Rattle.eden_ops.proofs.Looking.{plain_other}
@@ -34,51 +34,37 @@ returns-in-Err-clause-attempts g c =
 
 pub returns-then-size-gt-MAX_FILE-clause-attempts : goal.returns-then-size-gt-MAX_FILE-clause-attempts
 returns-then-size-gt-MAX_FILE-clause-attempts g c =
-    let p = c.args.path.now in
-    let s = c.args.inodes.now in
-    let t = c.meet_file.new.inodes in
-    let d = c.meet_file.new.cache in
     let e = c.in-Ok.ensures in
-    file_tells g.W.World g.F.Files p s t c.args.cache.now d c.in-Ok.seen e.file e.shown e.same e.cache (ask.Truncate c.args.path.now c.args.size) e.keeps (truncates c.args.size)
+    file_tells g.W.World g.F.Files c.args.path.now c.args.inodes.now c.meet_file.new.inodes c.args.cache.now c.meet_file.new.cache c.in-Ok.seen e.file e.shown e.same e.cache
+    (ask.Truncate c.args.path.now c.args.size) e.keeps (truncates c.args.size)
     (asks_truncate c.args.size c.args.path.now) (say.Err EFBIG) refl (λ T. refl)
     (λ k a l plain. truncates_far c.args.size k a l plain (lt-ltb 1073741824 c.args.size c.if-size-gt-MAX_FILE.true))
 
 pub fill-requires-clause-there : goal.fill-requires-clause-there
 fill-requires-clause-there g c =
-    let p = c.args.path.now in
-    let s = c.args.inodes.now in
-    let t = c.meet_file.new.inodes in
-    let d = c.meet_file.new.cache in
-    let e = c.in-Ok.ensures in (
-      e.file.entry.row,
-      is_file g.W.World g.F.Files p s t c.args.cache.now d c.in-Ok.seen e.file e.shown e.same e.cache (ask.Truncate c.args.path.now c.args.size) e.keeps (truncates c.args.size)
-          (asks_truncate c.args.size c.args.path.now) t d (λ h. refl) same refl (finds_same d),
-    )
+    let file = c.in-Ok.ensures.file in
+    (file.entry.row, file_met c.args.path.now c.meet_file.new.inodes.root c.in-Ok.seen file)
 
 pub returns-in-Ok-fill-clause-attempts : goal.returns-in-Ok-fill-clause-attempts
 returns-in-Ok-fill-clause-attempts g c =
-    let p = c.args.path.now in
-    let s = c.args.inodes.now in
-    let t = c.meet_file.new.inodes in
-    let d = c.meet_file.new.cache in
     let e = c.in-Ok.ensures in
-    file_fills g.W.World g.F.Files p s t c.args.cache.now d c.in-Ok.seen e.file e.shown e.same e.cache (ask.Truncate c.args.path.now c.args.size) e.keeps (truncates c.args.size)
-    (asks_truncate c.args.size c.args.path.now) t d (λ h. refl) same refl (finds_same d) c.fill.new.inodes (truncated c.args.size) c.whole.result (say.Ok) refl (λ T. refl)
-    (λ h. truncated_none c.args.size (content_shown g.W.World.repository (g.F.Files.stored t.files) e.file.entry.row) (ap (λ (n : ℕ). n == 0) c.if-size-eq0.true)
+    file_fills g.W.World g.F.Files c.args.path.now c.args.inodes.now c.meet_file.new.inodes c.args.cache.now c.meet_file.new.cache c.in-Ok.seen e.file e.shown e.same e.cache
+    (ask.Truncate c.args.path.now c.args.size) e.keeps (truncates c.args.size)
+    (asks_truncate c.args.size c.args.path.now) c.meet_file.new.inodes c.meet_file.new.cache (λ h. refl) same refl (finds_same c.meet_file.new.cache) c.fill.new.inodes (truncated c.args.size)
+    c.whole.result (say.Ok) refl (λ T. refl)
+    (λ h. truncated_none c.args.size (content_shown g.W.World.repository (g.F.Files.stored c.meet_file.new.inodes.files) e.file.entry.row) (ap (λ (n : ℕ). n == 0) c.if-size-eq0.true)
     ∙ ap (λ (x : List ℕ). Some x) (sym c.whole.ensures))
-    (λ h l plain. truncates_none c.args.size e.file.entry.row.kind (content_shown g.W.World.repository (g.F.Files.stored t.files) e.file.entry.row) l plain
+    (λ h l plain. truncates_none c.args.size e.file.entry.row.kind (content_shown g.W.World.repository (g.F.Files.stored c.meet_file.new.inodes.files) e.file.entry.row) l plain
     (le-ltb 1073741824 c.args.size c.if-size-gt-MAX_FILE.false) (ap (λ (n : ℕ). n == 0) c.if-size-eq0.true)) c.in-Ok-fill.ensures.shown
 
 pub returns-in-Err-fill-clause-attempts : goal.returns-in-Err-fill-clause-attempts
 returns-in-Err-fill-clause-attempts g c =
-    let p = c.args.path.now in
-    let s = c.args.inodes.now in
-    let t = c.meet_file.new.inodes in
-    let d = c.meet_file.new.cache in
     let e = c.in-Ok.ensures in
     let x = c.in-Err-fill.ensures in
-    file_refused g.W.World g.F.Files p s t c.args.cache.now d c.in-Ok.seen e.file e.shown e.same e.cache (ask.Truncate c.args.path.now c.args.size) e.keeps (truncates c.args.size)
-    (asks_truncate c.args.size c.args.path.now) t d (λ h. refl) same refl (finds_same d) c.fill.new.inodes c.in-Err-fill.fault x.fault (λ y is. cc) x.unseen
+    file_refused g.W.World g.F.Files c.args.path.now c.args.inodes.now c.meet_file.new.inodes c.args.cache.now c.meet_file.new.cache c.in-Ok.seen e.file e.shown e.same e.cache
+    (ask.Truncate c.args.path.now c.args.size) e.keeps (truncates c.args.size)
+    (asks_truncate c.args.size c.args.path.now) c.meet_file.new.inodes c.meet_file.new.cache (λ h. refl) same refl (finds_same c.meet_file.new.cache) c.fill.new.inodes c.in-Err-fill.fault x.fault
+    (λ y is. cc) x.unseen
 
 pub refill-requires-clause-content : goal.refill-requires-clause-content
 refill-requires-clause-content g c =
@@ -87,26 +73,17 @@ refill-requires-clause-content g c =
 
 pub refill-requires-clause-there : goal.refill-requires-clause-there
 refill-requires-clause-there g c =
-    let p = c.args.path.now in
-    let s = c.args.inodes.now in
-    let t = c.meet_file.new.inodes in
-    let d = c.meet_file.new.cache in
-    let e = c.in-Ok.ensures in (
-      e.file.entry.row,
-      is_file g.W.World g.F.Files p s t c.args.cache.now d c.in-Ok.seen e.file e.shown e.same e.cache (ask.Truncate c.args.path.now c.args.size) e.keeps (truncates c.args.size)
-          (asks_truncate c.args.size c.args.path.now) t d (λ h. refl) same refl (finds_same d),
-    )
+    let file = c.in-Ok.ensures.file in
+    (file.entry.row, file_met c.args.path.now c.meet_file.new.inodes.root c.in-Ok.seen file)
 
 pub returns-in-Err-refill-clause-attempts : goal.returns-in-Err-refill-clause-attempts
 returns-in-Err-refill-clause-attempts g c =
-    let p = c.args.path.now in
-    let s = c.args.inodes.now in
-    let t = c.meet_file.new.inodes in
-    let d = c.meet_file.new.cache in
     let e = c.in-Ok.ensures in
     let b = c.in-Err-refill.ensures.asks in
-    subst (λ (a : Attempt). Attempts g.W.World g.F.Files (ask.Truncate c.args.path.now c.args.size) s c.refill.new.inodes c.args.cache.now c.refill.new.cache a) (sym c.ended-in-Err-refill.ensures)
-    (file_lacks g.W.World g.F.Files p s t c.args.cache.now d c.in-Ok.seen e.file e.shown e.same e.cache (ask.Truncate c.args.path.now c.args.size) e.keeps (truncates c.args.size)
+    subst (λ (a : Attempt). Attempts g.W.World g.F.Files (ask.Truncate c.args.path.now c.args.size) c.args.inodes.now c.refill.new.inodes c.args.cache.now c.refill.new.cache a)
+    (sym c.ended-in-Err-refill.ensures)
+    (file_lacks g.W.World g.F.Files c.args.path.now c.args.inodes.now c.meet_file.new.inodes c.args.cache.now c.meet_file.new.cache c.in-Ok.seen e.file e.shown e.same e.cache
+    (ask.Truncate c.args.path.now c.args.size) e.keeps (truncates c.args.size)
     (asks_truncate c.args.size c.args.path.now) c.refill.new.inodes c.refill.new.cache b.same b.keeps b.still c.refill.ensures.cache (λ x is. cc) (λ k x is. cc) c.in-Err-refill.stop
     (λ k a r plain none. truncates_lost c.args.size k a false plain (le-ltb 1073741824 c.args.size c.if-size-gt-MAX_FILE.false) (ne_eqb c.args.size 0 c.if-size-eq0.false) r none)
     c.in-Err-refill.ensures.lacks)
@@ -121,19 +98,16 @@ returns-in-Ok-stored-clause-attempts g c =
     let r = c.in-Ok-refill.ensures.refills in
     let x =
     subst (λ (a : Result (Unit {0}) Fault). Fills g.W.World g.F.Files c.args.path.now r.table c.refill.new.inodes (resized c.args.size r.content) a) c.in-Ok-stored.is r.fills in
-    let p = c.args.path.now in
-    let s = c.args.inodes.now in
-    let t = c.meet_file.new.inodes in
-    let d = c.meet_file.new.cache in
     let e = c.in-Ok.ensures in
     let b = r.asks in
-    file_fills g.W.World g.F.Files p s t c.args.cache.now d c.in-Ok.seen e.file e.shown e.same e.cache (ask.Truncate c.args.path.now c.args.size) e.keeps (truncates c.args.size)
+    file_fills g.W.World g.F.Files c.args.path.now c.args.inodes.now c.meet_file.new.inodes c.args.cache.now c.meet_file.new.cache c.in-Ok.seen e.file e.shown e.same e.cache
+    (ask.Truncate c.args.path.now c.args.size) e.keeps (truncates c.args.size)
     (asks_truncate c.args.size c.args.path.now) r.table c.refill.new.cache b.same b.keeps b.still c.refill.ensures.cache
     c.refill.new.inodes (truncated c.args.size) (resized c.args.size r.content) (say.Ok) refl
     (λ T. refl)
-    (λ h. truncated_some c.args.size (content_shown g.W.World.repository (g.F.Files.stored t.files) e.file.entry.row) r.content (ne_eqb c.args.size 0 c.if-size-eq0.false)
+    (λ h. truncated_some c.args.size (content_shown g.W.World.repository (g.F.Files.stored c.meet_file.new.inodes.files) e.file.entry.row) r.content (ne_eqb c.args.size 0 c.if-size-eq0.false)
     (r.is.shown h e.file.entry.row e.file.entry.there))
-    (λ h l plain. truncates_some c.args.size e.file.entry.row.kind (content_shown g.W.World.repository (g.F.Files.stored t.files) e.file.entry.row) l plain
+    (λ h l plain. truncates_some c.args.size e.file.entry.row.kind (content_shown g.W.World.repository (g.F.Files.stored c.meet_file.new.inodes.files) e.file.entry.row) l plain
     (le-ltb 1073741824 c.args.size c.if-size-gt-MAX_FILE.false) (ne_eqb c.args.size 0 c.if-size-eq0.false) r.content (r.is.shown h e.file.entry.row e.file.entry.there))
     x.shown
 
@@ -142,13 +116,10 @@ returns-in-Err-stored-clause-attempts g c =
     let r = c.in-Ok-refill.ensures.refills in
     let x =
     subst (λ (a : Result (Unit {0}) Fault). Fills g.W.World g.F.Files c.args.path.now r.table c.refill.new.inodes (resized c.args.size r.content) a) c.in-Err-stored.is r.fills in
-    let p = c.args.path.now in
-    let s = c.args.inodes.now in
-    let t = c.meet_file.new.inodes in
-    let d = c.meet_file.new.cache in
     let e = c.in-Ok.ensures in
     let b = r.asks in
-    file_refused g.W.World g.F.Files p s t c.args.cache.now d c.in-Ok.seen e.file e.shown e.same e.cache (ask.Truncate c.args.path.now c.args.size) e.keeps (truncates c.args.size)
+    file_refused g.W.World g.F.Files c.args.path.now c.args.inodes.now c.meet_file.new.inodes c.args.cache.now c.meet_file.new.cache c.in-Ok.seen e.file e.shown e.same e.cache
+    (ask.Truncate c.args.path.now c.args.size) e.keeps (truncates c.args.size)
     (asks_truncate c.args.size c.args.path.now) r.table c.refill.new.cache b.same b.keeps b.still c.refill.ensures.cache c.refill.new.inodes c.in-Err-stored.fault x.fault (λ y is. cc) x.unseen
 
 pub returns-in-Err-clause-leaves : goal.returns-in-Err-clause-leaves
