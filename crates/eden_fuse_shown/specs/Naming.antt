@@ -16,6 +16,11 @@ use Rattle.eden_fuse_shown.specs.Opens.{Table as Opens}
 abbrev pub place_at : ℕ → Name → Option Place
 place_at node name = if is_some (name_refusal name) then None else Some (record { parent = node; name = name })
 
+-- .. of a name, if there is one
+abbrev pub place_of_name : ℕ → Option Name → Option Place
+place_of_name node None = None
+place_of_name node (Some name) = place_at node name
+
 -- the place that a message names in the directory of its node
 abbrev pub named : ℕ → Asked → Option Place
 named node (asked.Lookup n) = place_at node n

@@ -1,14 +1,17 @@
 // Places and paths of messages.
-ghost use Rattle.std.specs.Prelude.{◌≡◌, IfOk};
+ghost use Rattle.std.specs.Prelude.{◌≡◌, ℕ, IfOk};
+ghost use Rattle.std.specs.Option.{option_map};
 ghost use Rattle.eden_fuse_format.specs.Asked.{seen};
 ghost use Rattle.eden_fuse_nodes.specs.Tables.{place_of};
 ghost use Rattle.eden_fuse_shown.specs.Naming.{
   IsHeld,
   goal_of,
+  is_reserved,
   is_veiled,
   named,
   other_node,
   place_at,
+  place_of_name,
   veiled_name,
 };
 ghost use Rattle.eden_fuse_shown.specs.Showing.{Begins, IsOtherPath, IsPathOf};
@@ -17,7 +20,7 @@ use crate::opens::Opens;
 use eden_fuse_format::Operation;
 use eden_fuse_meaning::{Owner, Step, first, is_hidden};
 use eden_fuse_nodes::{Nodes, Place, ROOT};
-use eden_model::{Name, Path};
+use eden_model::{Name, Path, name_refusal};
 use std::alloc::{AllocError, Global};
 
 const ESTALE: u32 = 116;
@@ -31,13 +34,9 @@ fn place_at(alloc: Global, node: u64, name: &[u8]) -> Result<Option<Place>, Allo
     }
 }
 
-/// The place that a message names in the directory of its node.
-pub(crate) fn named(
-    alloc: Global,
-    node: u64,
-    operation: &Operation<'_>,
-) -> Result<Option<Place>, AllocError>
-    ensures { IfOk result (λ p. p ≡ named node (seen operation.now)) }
+/// The name at which a message finds, makes, moves or removes something in the directory of its node.
+fn name_of<'a>(operation: &Operation<'a>) -> Option<&'a [u8]>
+    ensures { (node : ℕ) → named node (seen operation.now) ≡ place_of_name node (option_map (λ n. n.now) result) }
 {
     match operation {
         Operation::Lookup(name)
@@ -48,8 +47,22 @@ pub(crate) fn named(
         | Operation::RmDir(name)
         | Operation::Rename(_, name, _)
         | Operation::Rename2(_, name, _)
-        | Operation::Create(_, name) => place_at(alloc, node, name),
-        _ => Ok(None),
+        | Operation::Create(_, name) => Some(name),
+        _ => None,
+    }
+}
+
+/// The place that a message names in the directory of its node.
+pub(crate) fn named(
+    alloc: Global,
+    node: u64,
+    operation: &Operation<'_>,
+) -> Result<Option<Place>, AllocError>
+    ensures { IfOk result (λ p. p ≡ named node (seen operation.now)) }
+{
+    match name_of(operation) {
+        None => Ok(None),
+        Some(name) => place_at(alloc, node, name),
     }
 }
 
@@ -64,14 +77,37 @@ pub(crate) fn goal_of(alloc: Global, operation: &Operation<'_>) -> Result<Option
     }
 }
 
-/// Whether nobody sees what stands at the place.
-pub(crate) fn is_veiled(place: &Option<Place>) -> bool
-    ensures { result ≡ is_veiled place.now }
+// Whether nobody sees what stands at that name of a node.
+fn is_veiled(node: u64, name: &[u8]) -> bool
+    ensures { result ≡ is_veiled (place_at node name.now) }
 {
-    match place {
+    node == ROOT && is_hidden(name) && name_refusal(name).is_none()
+}
+
+fn names_veiled(node: u64, operation: &Operation<'_>) -> bool
+    ensures { result ≡ is_veiled (named node (seen operation.now)) }
+{
+    match name_of(operation) {
         None => false,
-        Some(place) => place.parent == ROOT && is_hidden(place.name.as_slice()),
+        Some(name) => is_veiled(node, name),
     }
+}
+
+fn moves_to_veiled(operation: &Operation<'_>) -> bool
+    ensures { result ≡ is_veiled (goal_of (seen operation.now)) }
+{
+    match operation {
+        Operation::Rename(head, _, name) => is_veiled(head.newdir, name),
+        Operation::Rename2(head, _, name) => is_veiled(head.newdir, name),
+        _ => false,
+    }
+}
+
+/// Whether a message names what nobody sees.
+pub(crate) fn is_reserved(node: u64, operation: &Operation<'_>) -> bool
+    ensures { result ≡ is_reserved node (seen operation.now) }
+{
+    names_veiled(node, operation) || moves_to_veiled(operation)
 }
 
 /// The name of the root at which nobody sees a node, if it stands there. The only error is want of memory.
@@ -93,8 +129,8 @@ pub(crate) fn veiled_name(
     }
 }
 
-/// The node that stands at the place and is open, if one does.
-pub(crate) fn held(nodes: &Nodes, opens: &Opens, place: &Option<Place>) -> Option<u64>
+// The node that stands at the place and is open, if one does.
+fn held_at(nodes: &Nodes, opens: &Opens, place: &Option<Place>) -> Option<u64>
     ensures { IsHeld nodes.now opens.now place.now result }
 {
     match place {
@@ -110,6 +146,33 @@ pub(crate) fn held(nodes: &Nodes, opens: &Opens, place: &Option<Place>) -> Optio
             }
         },
     }
+}
+
+/// The node that a message names and that is open, if one is. The only error is want of memory.
+pub(crate) fn held(
+    alloc: Global,
+    nodes: &Nodes,
+    opens: &Opens,
+    node: u64,
+    operation: &Operation<'_>,
+) -> Result<Option<u64>, AllocError>
+    ensures { IfOk result (λ held. IsHeld nodes.now opens.now (named node (seen operation.now)) held) }
+{
+    let place = named(alloc, node, operation)?;
+    Ok(held_at(nodes, opens, &place))
+}
+
+/// .. of those at the place that a rename moves to.
+pub(crate) fn held_goal(
+    alloc: Global,
+    nodes: &Nodes,
+    opens: &Opens,
+    operation: &Operation<'_>,
+) -> Result<Option<u64>, AllocError>
+    ensures { IfOk result (λ held. IsHeld nodes.now opens.now (goal_of (seen operation.now)) held) }
+{
+    let place = goal_of(alloc, operation)?;
+    Ok(held_at(nodes, opens, &place))
 }
 
 fn other_node(operation: &Operation<'_>) -> Option<u64>

@@ -70,7 +70,7 @@ use crate::listing::rows_in;
 use crate::looking::look_before;
 use crate::manner::Manner;
 use crate::mount::Mount;
-use crate::naming::{begin, goal_of, held, is_veiled, named, path_of, veiled_name};
+use crate::naming::{begin, goal_of, held, held_goal, is_reserved, named, path_of, veiled_name};
 use crate::opens::Opens;
 use crate::pages::Pages;
 use crate::reading::gather;
@@ -270,12 +270,8 @@ impl<M: Mount + Drop, K: Clock + Drop> Shown<M, K> {
         node: u64,
         offset: u64,
         operation: &Operation<'_>,
-        place: Option<Place>,
-        goal: Option<Place>,
         room: &mut Vec<u8>,
     ) -> Said
-        requires place { place ≡ named node (seen operation.now) }
-        requires goal { goal ≡ goal_of (seen operation.now) }
         ensures writes { WritesAnew M.answers node offset (seen operation.now) self.old
             (told result room.new.items) self.new }
         ensures brief { IsBriefly result room.new.items }
@@ -284,7 +280,7 @@ impl<M: Mount + Drop, K: Clock + Drop> Shown<M, K> {
         if self.waits.may_wait(node, offset, bytes) {
             return self.join(node, offset, bytes, room);
         }
-        self.go(node, operation, place, goal, None, room)
+        self.answer(node, operation, None, room)
     }
 
     // What lies between what waits for a node and an offset; None if there is no such gap, or it can't be read.
@@ -324,19 +320,15 @@ impl<M: Mount + Drop, K: Clock + Drop> Shown<M, K> {
         node: u64,
         offset: u64,
         operation: &Operation<'_>,
-        place: Option<Place>,
-        goal: Option<Place>,
         room: &mut Vec<u8>,
     ) -> Said
-        requires place { place ≡ named node (seen operation.now) }
-        requires goal { goal ≡ goal_of (seen operation.now) }
         ensures writes { Once M.answers (Some node) (WritesAnew M.answers node offset (seen operation.now)) self.old
             (told result room.new.items) self.new }
         ensures brief { IsBriefly result room.new.items }
     {
         match self.settle(node) {
             Some(errno) => refuse(errno),
-            None => self.write_anew(node, offset, operation, place, goal, room),
+            None => self.write_anew(node, offset, operation, room),
         }
     }
 
@@ -347,13 +339,9 @@ impl<M: Mount + Drop, K: Clock + Drop> Shown<M, K> {
         offset: u64,
         between: Vec<u8>,
         operation: &Operation<'_>,
-        place: Option<Place>,
-        goal: Option<Place>,
         room: &mut Vec<u8>,
     ) -> Said
         requires gap { IsSome (gap_of self.old.waits node offset (data_of (seen operation.now))) }
-        requires place { place ≡ named node (seen operation.now) }
-        requires goal { goal ≡ goal_of (seen operation.now) }
         ensures writes { BridgesIf M.answers (Some between.items) node offset (data_of (seen operation.now))
             (Once M.answers (Some node) (WritesAnew M.answers node offset (seen operation.now))) self.old
             (told result room.new.items) self.new }
@@ -363,7 +351,7 @@ impl<M: Mount + Drop, K: Clock + Drop> Shown<M, K> {
         if self.bridge(node, offset, between, bytes) {
             return Said::Answers(count(bytes.len() as u64));
         }
-        self.write_after(node, offset, operation, place, goal, room)
+        self.write_after(node, offset, operation, room)
     }
 
     // What is written doesn't join what waits.
@@ -372,22 +360,16 @@ impl<M: Mount + Drop, K: Clock + Drop> Shown<M, K> {
         node: u64,
         offset: u64,
         operation: &Operation<'_>,
-        place: Option<Place>,
-        goal: Option<Place>,
         room: &mut Vec<u8>,
     ) -> Said
-        requires place { place ≡ named node (seen operation.now) }
-        requires goal { goal ≡ goal_of (seen operation.now) }
         ensures writes { WritesApart M.answers node offset (seen operation.now) self.old
             (told result room.new.items) self.new }
         ensures brief { IsBriefly result room.new.items }
     {
         let gap = self.waits.gap(node, offset, data_of(operation));
         match self.look_between(node, gap) {
-            None => self.write_after(node, offset, operation, place, goal, room),
-            Some(between) => {
-                self.write_over(node, offset, between, operation, place, goal, room)
-            }
+            None => self.write_after(node, offset, operation, room),
+            Some(between) => { self.write_over(node, offset, between, operation, room) }
         }
     }
 
@@ -397,12 +379,8 @@ impl<M: Mount + Drop, K: Clock + Drop> Shown<M, K> {
         node: u64,
         offset: u64,
         operation: &Operation<'_>,
-        place: Option<Place>,
-        goal: Option<Place>,
         room: &mut Vec<u8>,
     ) -> Said
-        requires place { place ≡ named node (seen operation.now) }
-        requires goal { goal ≡ goal_of (seen operation.now) }
         ensures writes { Writes M.answers node offset (seen operation.now) self.old
             (told result room.new.items) self.new }
         ensures brief { IsBriefly result room.new.items }
@@ -411,27 +389,18 @@ impl<M: Mount + Drop, K: Clock + Drop> Shown<M, K> {
         if self.waits.may_wait(node, offset, bytes) {
             return self.join(node, offset, bytes, room);
         }
-        self.write_apart(node, offset, operation, place, goal, room)
+        self.write_apart(node, offset, operation, room)
     }
 
     // Answers a message before which what waits for its node is stored.
-    fn look(
-        &mut self,
-        node: u64,
-        operation: &Operation<'_>,
-        place: Option<Place>,
-        goal: Option<Place>,
-        room: &mut Vec<u8>,
-    ) -> Said
-        requires place { place ≡ named node (seen operation.now) }
-        requires goal { goal ≡ goal_of (seen operation.now) }
+    fn look(&mut self, node: u64, operation: &Operation<'_>, room: &mut Vec<u8>) -> Said
         ensures looks { Once M.answers (Some node) (Runs M.answers node (seen operation.now) None) self.old
             (told result room.new.items) self.new }
         ensures brief { IsBriefly result room.new.items }
     {
         match self.settle(node) {
             Some(errno) => refuse(errno),
-            None => self.go(node, operation, place, goal, None, room),
+            None => self.answer(node, operation, None, room),
         }
     }
 
@@ -511,23 +480,15 @@ impl<M: Mount + Drop, K: Clock + Drop> Shown<M, K> {
     }
 
     // Removes what a message names, or hides it while it is open.
-    fn remove(
-        &mut self,
-        node: u64,
-        operation: &Operation<'_>,
-        place: Option<Place>,
-        goal: Option<Place>,
-        room: &mut Vec<u8>,
-    ) -> Said
-        requires place { place ≡ named node (seen operation.now) }
-        requires goal { goal ≡ goal_of (seen operation.now) }
-        ensures removes { RemovesHeld M.answers node (seen operation.now) self.old
-            (told result room.new.items) self.new }
+    fn remove(&mut self, node: u64, operation: &Operation<'_>, room: &mut Vec<u8>) -> Said
+        ensures removes { Starves M.answers self.old (told result room.new.items) self.new
+            ⊎ RemovesHeld M.answers node (seen operation.now) self.old (told result room.new.items) self.new }
         ensures brief { IsBriefly result room.new.items }
     {
-        match held(&self.nodes, &self.opens, &place) {
-            None => self.go(node, operation, place, goal, None, room),
-            Some(held) => self.hide(node, last_name(operation), held, room),
+        match held(self.alloc, &self.nodes, &self.opens, node, operation) {
+            Err(_) => refuse(ENOMEM),
+            Ok(None) => self.answer(node, operation, None, room),
+            Ok(Some(held)) => self.hide(node, last_name(operation), held, room),
         }
     }
 
@@ -580,19 +541,17 @@ impl<M: Mount + Drop, K: Clock + Drop> Shown<M, K> {
         node: u64,
         operation: &Operation<'_>,
         directory: u64,
-        place: Option<Place>,
-        goal: Option<Place>,
         room: &mut Vec<u8>,
     ) -> Said
-        requires place { place ≡ named node (seen operation.now) }
-        requires goal { goal ≡ goal_of (seen operation.now) }
-        ensures replaces { ReplacesHeld M.answers directory node (seen operation.now) self.old
+        ensures replaces { Starves M.answers self.old (told result room.new.items) self.new
+            ⊎ ReplacesHeld M.answers directory node (seen operation.now) self.old
             (told result room.new.items) self.new }
         ensures brief { IsBriefly result room.new.items }
     {
-        match held(&self.nodes, &self.opens, &goal) {
-            None => self.go(node, operation, place, goal, None, room),
-            Some(held) => self.move_over(node, operation, directory, held, room),
+        match held_goal(self.alloc, &self.nodes, &self.opens, operation) {
+            Err(_) => refuse(ENOMEM),
+            Ok(None) => self.answer(node, operation, None, room),
+            Ok(Some(held)) => self.move_over(node, operation, directory, held, room),
         }
     }
 
@@ -685,22 +644,13 @@ impl<M: Mount + Drop, K: Clock + Drop> Shown<M, K> {
     }
 
     // Begins: what another run left goes.
-    fn start(
-        &mut self,
-        node: u64,
-        operation: &Operation<'_>,
-        place: Option<Place>,
-        goal: Option<Place>,
-        room: &mut Vec<u8>,
-    ) -> Said
-        requires place { place ≡ named node (seen operation.now) }
-        requires goal { goal ≡ goal_of (seen operation.now) }
+    fn start(&mut self, node: u64, operation: &Operation<'_>, room: &mut Vec<u8>) -> Said
         ensures starts { Starts M.answers node (seen operation.now) self.old (told result room.new.items) self.new }
         ensures brief { IsBriefly result room.new.items }
     {
         match self.clear(room) {
             Err(_) => refuse(ENOMEM),
-            Ok(()) => self.go(node, operation, place, goal, None, room),
+            Ok(()) => self.answer(node, operation, None, room),
         }
     }
 
@@ -710,26 +660,18 @@ impl<M: Mount + Drop, K: Clock + Drop> Shown<M, K> {
             (told result room.new.items) self.new }
         ensures brief { IsBriefly result room.new.items }
     {
-        let Ok(place) = named(self.alloc, node, operation) else {
-            return refuse(ENOMEM);
-        };
-        let Ok(goal) = goal_of(self.alloc, operation) else {
-            return refuse(ENOMEM);
-        };
-        if is_veiled(&place) || is_veiled(&goal) {
+        if is_reserved(node, operation) {
             return refuse(denial(operation));
         }
         match sort {
-            Sort::Start => self.start(node, operation, place, goal, room),
-            Sort::Remove => self.remove(node, operation, place, goal, room),
-            Sort::Replace(directory) => {
-                self.replace(node, operation, directory, place, goal, room)
-            }
-            Sort::Write(offset) => self.write(node, offset, operation, place, goal, room),
-            Sort::Look => self.look(node, operation, place, goal, room),
+            Sort::Start => self.start(node, operation, room),
+            Sort::Remove => self.remove(node, operation, room),
+            Sort::Replace(directory) => { self.replace(node, operation, directory, room) }
+            Sort::Write(offset) => self.write(node, offset, operation, room),
+            Sort::Look => self.look(node, operation, room),
             Sort::Sync => self.sync(node, room),
             Sort::One(_) | Sort::Batch | Sort::On(_) | Sort::Close | Sort::Plain => {
-                self.go(node, operation, place, goal, None, room)
+                self.answer(node, operation, None, room)
             }
         }
     }

@@ -1,4 +1,4 @@
-use Rattle.std.proofs.Common.{◌-◌, ◌≤◌, ℕ}
+use Rattle.std.proofs.Common.{◌-◌, ◌≤◌}
 use Rattle.eden_fuse_shown.specs.Reading.{ReadsOn}
 use Rattle.eden_fuse_shown.proofs.reading.gather.Given as goal
 

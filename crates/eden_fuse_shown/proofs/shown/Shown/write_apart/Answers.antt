@@ -29,12 +29,14 @@ returns-in-Some-clause-writes g c =
     c.look_between.new.self c.write_over.new.self (told c.write_over.result c.write_over.new.room.items) (Some c.in-Some.between.items) c.data_of.ensures gap
     c.in-Some.ensures c.write_over.ensures.writes
 
-pub write_over-requires-clause-gap : goal.write_over-requires-clause-gap
-write_over-requires-clause-gap g c =
+pub write_over-requires : goal.write_over-requires
+write_over-requires g c =
     let A = g.M.Mount.answers in
     let a = seen c.args.operation.now in
     let bytes = c.data_of.result.now in
     let gap : c.gap-gap.result ≡ gap_of c.args.self.now.waits c.args.node c.args.offset bytes =
     subst (λ (s : Showing g.row.M.Denot). c.gap-gap.result ≡ gap_of s.waits c.args.node c.args.offset bytes) c.self.view_is c.gap-gap.ensures.gap in
-    some_gap A c.args.node c.args.offset (data_of a) bytes c.gap-gap.result (Once A (Some c.args.node) (WritesAnew A c.args.node c.args.offset a)) c.args.self.now
-    c.look_between.new.self c.look_between.new.self None c.in-Some.between.items c.data_of.ensures gap c.in-Some.ensures
+    record {
+      gap = some_gap A c.args.node c.args.offset (data_of a) bytes c.gap-gap.result (Once A (Some c.args.node) (WritesAnew A c.args.node c.args.offset a)) c.args.self.now
+          c.look_between.new.self c.look_between.new.self None c.in-Some.between.items c.data_of.ensures gap c.in-Some.ensures;
+    }
