@@ -1,5 +1,5 @@
 -- What stands where an entry is to go.
-use Rattle.std.proofs.Common.{◌≡◌, ◌≢◌, ◌⊎◌, ℕ, Bool, true, false, List, [], ◌∷◌, Option, Some, None, Err, sym, refl, ◌∙◌, ap, subst, inl, inr}
+use Rattle.std.proofs.Common.{◌≡◌, ◌≢◌, ◌⊎◌, ℕ, Bool, true, false, List, [], ◌∷◌, Option, Some, None, Ok, Err, sym, refl, ◌∙◌, ap, subst, inl, inr}
 use Rattle.std.specs.Option.{option_map}
 use Rattle.eden_model.specs.declared.errno.Errno.TheVariants.{ENOTDIR, EISDIR, ENOTEMPTY}
 use Rattle.eden_model.specs.declared.fault.Fault.{Fault}
@@ -35,6 +35,7 @@ use Rattle.eden_ops.proofs.Answering.{no_entry}
 use Rattle.eden_ops.proofs.Fetching.{away, dir_kind, shown_kind}
 use Rattle.eden_ops.proofs.Looking.{lists_other, lists_away}
 use Rattle.eden_ops.proofs.Changing.{unlinks_file, unlinks_dir}
+use Rattle.eden_ops.proofs.Reached.{seen_at, shown_at}
 use Rattle.eden_ops.proofs.Rounds.{lacks_since}
 use Rattle.eden_ops.proofs.Walking.{walk_here, reach_here, place_passes, known_unloaded, known_dir}
 
@@ -83,10 +84,10 @@ replaced R F G p x seen at dir r h says =
 
 module _ (R : Repository) (F : Stored) (G : Tree) (p : Path) (x : Row) (seen : Seen) (at : IsSeen p x seen) (h : IsShown R F (row_at p x) (reach G p)) where
   -- a file or a link
-  pub land_over_file : (dir : Bool) → dir ≡ false → seen.kind ≢ kind.Dir → MayLand G p dir say.Ok
+  land_over_file : (dir : Bool) → dir ≡ false → seen.kind ≢ kind.Dir → MayLand G p dir say.Ok
   land_over_file dir is other = subst (λ (b : Bool). MayLand G p b say.Ok) (sym is) (replaced R F G p x seen at false say.Ok h (λ c l. unlinks_file at.row.kind c l (λ k. other (at.kind ∙ k))))
 
-  pub file_refuses : (dir : Bool) → dir ≡ true → seen.kind ≢ kind.Dir → MayLand G p dir (say.Err ENOTDIR)
+  file_refuses : (dir : Bool) → dir ≡ true → seen.kind ≢ kind.Dir → MayLand G p dir (say.Err ENOTDIR)
   file_refuses dir is other =
       subst (λ (b : Bool). MayLand G p b (say.Err ENOTDIR)) (sym is) (replaced R F G p x seen at true (say.Err ENOTDIR) h (λ c l. lists_other (IfEmpty G p) at.row.kind c l (λ k. other (at.kind ∙ k))))
 
@@ -96,7 +97,18 @@ module _ (R : Repository) (F : Stored) (G : Tree) (p : Path) (x : Row) (seen : S
       subst (λ (b : Bool). MayLand G p b (say.Err EISDIR)) (sym is)
       (replaced R F G p x seen at false (say.Err EISDIR) h (λ c l. unlinks_dir at.row.kind c l (shown_kind p x seen at R F (reach G p) h told)))
 
--- .. which is loaded
+-- .. as a walk met it
+module _ {W F : Type 0} (w : Ghosts W) (f : Files F W) (p : Path) (s t : Table F) (d : Cache) (o : Option Seen) (seen : Seen) (is : o ≡ Some seen) (meets : Meets w f p s t d (Ok o))
+    (shown : w.honest → MeetsShown w f p s t (Ok o)) (other : seen.kind ≢ kind.Dir) (dir : Bool) where
+  pub land_over_met : dir ≡ false → w.honest → MayLand (shows w f s) p dir say.Ok
+  land_over_met asked h =
+      land_over_file w.repository (f.stored t.files) (shows w f s) p t.root seen (seen_at w f p s t d o seen is meets) (shown_at w f p s t d o seen is shown h) dir asked other
+
+  pub met_refuses : dir ≡ true → w.honest → MayLand (shows w f s) p dir (say.Err ENOTDIR)
+  met_refuses asked h =
+      file_refuses w.repository (f.stored t.files) (shows w f s) p t.root seen (seen_at w f p s t d o seen is meets) (shown_at w f p s t d o seen is shown h) dir asked other
+
+-- .. a directory that is loaded
 module _ (G : Tree) (p : Path) (here : reach G p ≡ Here (Dir true)) where
   pub land_over_none : (dir : Bool) → dir ≡ true → HasNoEntries G p → MayLand G p dir say.Ok
   land_over_none dir is none =

@@ -1,14 +1,12 @@
 use Rattle.std.proofs.Common.{sym, subst, ◌∙◌}
 use Rattle.eden_model.specs.declared.errno.Errno.TheVariants.{ENOTEMPTY}
 use Rattle.eden_model.specs.declared.reply.Reply.TheVariants as say
-use Rattle.eden_model.specs.Trees.{Tree, reach}
-use Rattle.eden_tree.specs.Paths.{row_at}
+use Rattle.eden_model.specs.Trees.{Tree}
 use Rattle.eden_inode.specs.Tables.{shows}
-use Rattle.eden_ops.specs.Attempts.{IsShown}
 use Rattle.eden_ops.specs.Renames.{MayLand}
 use Rattle.eden_ops.proofs.Looking.{no_dir}
-use Rattle.eden_ops.proofs.Reached.{seen_at, shown_at, met_passes}
-use Rattle.eden_ops.proofs.Renames.{land_ended, land_fails, land_over_file, file_refuses, land_over_none, land_over_some, land_lacks, loaded_passes}
+use Rattle.eden_ops.proofs.Reached.{seen_at, met_passes}
+use Rattle.eden_ops.proofs.Renames.{land_ended, land_fails, land_over_met, met_refuses, land_over_none, land_over_some, land_lacks, loaded_passes}
 use Rattle.eden_ops.proofs.Stamps.{walked_on}
 use Rattle.eden_ops.proofs.Steps.{keeps_on}
 use Rattle.eden_inode.specs.Trails.{Leads}
@@ -24,19 +22,12 @@ returns-in-Err-clause-shown g c h = land_fails g.W.World g.F.Files c.args.path.n
 
 pub returns-in-File : goal.returns-in-File
 returns-in-File g c =
-    let p = c.args.path.now in
-    let s = c.args.inodes.now in
-    let t = c.meet.new.inodes in
     let e = c.in-Ok-Some.ensures in
-    let seen = seen_at g.W.World g.F.Files p s t c.meet.new.cache _ c.in-Ok-Some.seen c.in-Ok-Some.field-0-is e.meets in
-    let shown : g.W.World.honest → IsShown g.W.World.repository (g.F.Files.stored t.files) (row_at p t.root)
-    (reach (shows g.W.World g.F.Files s) p) = shown_at g.W.World g.F.Files p s t c.meet.new.cache _ c.in-Ok-Some.seen c.in-Ok-Some.field-0-is e.shown in
     let other = no_dir c.what.result c.in-File.is in
-    let file = c.what.ensures.other other in
     record {
-      lands = met_passes g.W.World g.F.Files p s t c.meet.new.cache _ e.meets;
-      shown = λ h. land_over_file g.W.World.repository (g.F.Files.stored t.files) (shows g.W.World g.F.Files s) p t.root c.in-Ok-Some.seen seen (shown h) c.args.dir c.if-dir.false
-          (λ dir. other (sym file.1 ∙ dir));
+      lands = met_passes g.W.World g.F.Files c.args.path.now c.args.inodes.now c.meet.new.inodes c.meet.new.cache _ e.meets;
+      shown = land_over_met g.W.World g.F.Files c.args.path.now c.args.inodes.now c.meet.new.inodes c.meet.new.cache _ c.in-Ok-Some.seen c.in-Ok-Some.field-0-is e.meets e.shown
+          (λ dir. other (sym (c.what.ensures.other other).1 ∙ dir)) c.args.dir c.if-dir.false;
       same = e.same;
       keeps = e.keeps;
       cache = e.cache;
@@ -47,19 +38,12 @@ returns-in-File g c =
 
 pub returns-then-dir : goal.returns-then-dir
 returns-then-dir g c =
-    let p = c.args.path.now in
-    let s = c.args.inodes.now in
-    let t = c.meet.new.inodes in
     let e = c.in-Ok-Some.ensures in
-    let seen = seen_at g.W.World g.F.Files p s t c.meet.new.cache _ c.in-Ok-Some.seen c.in-Ok-Some.field-0-is e.meets in
-    let shown : g.W.World.honest → IsShown g.W.World.repository (g.F.Files.stored t.files) (row_at p t.root)
-    (reach (shows g.W.World g.F.Files s) p) = shown_at g.W.World g.F.Files p s t c.meet.new.cache _ c.in-Ok-Some.seen c.in-Ok-Some.field-0-is e.shown in
     let other = no_dir c.what.result c.in-File.is in
-    let file = c.what.ensures.other other in
     record {
       lands = tt;
-      shown = λ h. file_refuses g.W.World.repository (g.F.Files.stored t.files) (shows g.W.World g.F.Files s) p t.root c.in-Ok-Some.seen seen (shown h) c.args.dir c.if-dir.true
-          (λ dir. other (sym file.1 ∙ dir));
+      shown = met_refuses g.W.World g.F.Files c.args.path.now c.args.inodes.now c.meet.new.inodes c.meet.new.cache _ c.in-Ok-Some.seen c.in-Ok-Some.field-0-is e.meets e.shown
+          (λ dir. other (sym (c.what.ensures.other other).1 ∙ dir)) c.args.dir c.if-dir.true;
       same = e.same;
       keeps = e.keeps;
       cache = e.cache;
