@@ -443,9 +443,9 @@ class DotGit(cases.Case):
         check("its working trees", len(git(self.repository, "worktree", "list").splitlines()), 1)
 
     def test_forgotten(self) -> None:
-        """The repository forgets an overlay that a mount finds gone, and one that comes long after it."""
-        names = ["first", "second", "third"]
-        for name, wanted in zip(names, (["first"], ["first", "second"], ["second", "third"])):
+        """The repository forgets an overlay that a mount finds gone, one long after it too, and one some days later."""
+        names = ["first", "second", "third", "fourth"]
+        for name, wanted in zip(names, (names[:1], names[:2], names[:3], names[1:])):
             self.overlay = self.folder / name
             with self.mounted() as mount:
                 self.made(mount)
@@ -454,7 +454,7 @@ class DotGit(cases.Case):
             check("what it includes", found, wanted)
             check("its working trees", len(list((self.repository / ".git/worktrees").iterdir())), len(wanted))
             shutil.rmtree(self.overlay)
-            for mark in (self.repository / ".git/mount-git").glob("*.missing"):
+            for mark in (self.repository / ".git/mount-git").glob("*.missing*"):
                 os.utime(mark, (0, 0))
 
     def test_line_feed(self) -> None:

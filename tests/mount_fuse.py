@@ -388,12 +388,12 @@ def check_kept(folder: pathlib.Path) -> None:
     overlay.rename(folder / "moved")
     refs = git(repository, "for-each-ref", "refs/mount-git").splitlines()
     check("kept: the tree and the commit", len(refs), 2)
-    for seconds, wanted in [(time.time(), refs), (0, refs), (0, [])]:
+    for seconds, wanted in [(time.time(), refs), (0, refs), (0, refs), (0, [])]:
         with MountGit(repository, "HEAD", folder / "mounted") as mount:
             check("kept: of no overlay", (mount.end("SIGTERM"), mount.said()), (0, []))
         check("kept: since then", git(repository, "for-each-ref", "refs/mount-git").splitlines(), wanted)
-        # The first mount saw that the overlay isn't there, and said when.
-        for mark in (repository / ".git/mount-git").glob("*.missing"):
+        # The first mount saw that the overlay isn't there, and said when; the third that it still isn't.
+        for mark in (repository / ".git/mount-git").glob("*.missing*"):
             os.utime(mark, (seconds, seconds))
     forget_all(repository)
     status, lines = said_by(*MountGit.words(repository, "HEAD", folder / "mounted", "--overlay", folder / "moved"))

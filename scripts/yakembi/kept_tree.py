@@ -21,9 +21,10 @@ REFS = "refs/mount-git/"
 TREE, COMMIT, EACH_TREE = "tree", "commit", "trees"
 LINKS = "mount-git"
 # How the name of a mark ends that says since when a link leads nowhere, and how long such a link stays, as where the
-# overlay lies on a disk that isn't there just now.
-MISSING = ".missing"
-SECONDS_KEPT = 90 * 86_400
+# overlay lies on a disk that isn't there just now. Once it has stayed for so long a second mark says so, and the link
+# goes some days after that one: a clock that was wrong for one mount sets one mark alone.
+MISSING, STILL_MISSING = ".missing", ".missing-still"
+SECONDS_KEPT, SECONDS_STILL_KEPT = 90 * 86_400, 7 * 86_400
 
 
 def keep(repository: Repository, own_name: pathlib.Path, noted: Noted) -> None:
@@ -122,25 +123,36 @@ def link_to(common: str, own_name: pathlib.Path) -> pathlib.Path:
 
 def is_forgotten(link: pathlib.Path) -> bool:
     """Whether a link of the repository's has led nowhere for long."""
-    mark = mark_of(link)
     with contextlib.suppress(OSError):
         if leads_somewhere(link):
-            mark.unlink(missing_ok=True)
-        elif mark.exists():
-            return mark.stat().st_mtime < time.time() - SECONDS_KEPT
+            unmark(link)
         else:
-            mark.parent.mkdir(exist_ok=True)
-            mark.touch()
+            return is_older(mark_of(link, MISSING), SECONDS_KEPT) and \
+                is_older(mark_of(link, STILL_MISSING), SECONDS_STILL_KEPT)
+    return False
+
+
+def is_older(mark: pathlib.Path, seconds: int) -> bool:
+    """Whether the mark was made so long ago; one that isn't there is made now."""
+    if mark.exists():
+        return mark.stat().st_mtime < time.time() - seconds
+    mark.parent.mkdir(exist_ok=True)
+    mark.touch()
     return False
 
 
 def forget(link: pathlib.Path) -> None:
     link.unlink(missing_ok=True)
-    mark_of(link).unlink(missing_ok=True)
+    unmark(link)
 
 
-def mark_of(link: pathlib.Path) -> pathlib.Path:
-    return link.parent.parent / LINKS / f"{link.name}{MISSING}"
+def unmark(link: pathlib.Path) -> None:
+    for ending in (MISSING, STILL_MISSING):
+        mark_of(link, ending).unlink(missing_ok=True)
+
+
+def mark_of(link: pathlib.Path, ending: str) -> pathlib.Path:
+    return link.parent.parent / LINKS / f"{link.name}{ending}"
 
 
 def leads_somewhere(link: pathlib.Path) -> bool:
