@@ -81,7 +81,7 @@ module _ {W F : Type 0} (w : Ghosts W) (f : Files F W) where
     lived_seen x =
         let whole = session_seen fetched (attempted w f) w.honest copies limit x.begun x.ended input output x.said x.session x.told in
         let from = subst (λ (s : Ledger S). Session (LedgerAnswers fetched limit) (s, ledger x.ended.core.history x.ended.source) input output x.said)
-            (ap (λ (m : Core (Checkout F)). ledger m.history x.begun.source) x.begins.core ∙ ap (λ (s : S). ledger [] s) x.begins.source) whole in
+        (ap (λ (m : Core (Checkout F)). ledger m.history x.begun.source) x.begins.core ∙ ap (λ (s : S). ledger [] s) x.begins.source) whole in
         record {
           history = x.ended.core.history;
           said = x.said;
