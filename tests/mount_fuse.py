@@ -6,6 +6,7 @@ import mmap
 import os
 import pathlib
 import random
+import shutil
 import signal
 import subprocess
 import sys
@@ -190,6 +191,11 @@ def check_second_mount(folder: pathlib.Path, repository: pathlib.Path) -> None:
         check("a second mount", told, (1, [line]))
         (mount.folder / "made").write_text("made")
         check("a second mount: the first goes on", (mount.folder / "made").read_text(), "made")
+        overlay.rename(folder / "moved away")
+        status, lines = said_by(*MountGit.words(repository, "HEAD", folder / "second", "--overlay", overlay))
+        check("a second mount: where the first's overlay lay", (status, "was moved or removed" in lines[-1]), (1, True))
+        shutil.rmtree(overlay)
+        (folder / "moved away").rename(overlay)
         check("a second mount: the end of the first", mount.end("SIGTERM"), 0)
     words = [MOUNTD, "stdio", "--root", git(repository, "rev-parse", "HEAD^{tree}"), "--git", repository / ".git"]
     session = client.start([str(word) for word in [*words, "--overlay", overlay]])

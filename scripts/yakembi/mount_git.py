@@ -31,7 +31,7 @@ from yakembi.git import Refusal, Repository
 from yakembi.git_folder import GitFolder, Stand
 from yakembi.git_objects import number_of_bytes
 from yakembi.kernel import Result, Unclosed, Unopened
-from yakembi.overlay import Noted, OverlayFolder, make_folder
+from yakembi.overlay import Noted, OverlayFolder, make_folder, refuse_moved_from
 from yakembi.partial_clone import AHEAD
 from yakembi.programs import add_mountd, check_text, run_mountd, source_of
 
@@ -454,6 +454,7 @@ def show(words: argparse.Namespace, repository: Repository, noted: Noted, source
          folder: str, shown: Callable[[], object]) -> None:
     """Shows the folder by `mountd fuse`, until nothing is mounted any more. Once it is shown, `shown` is told."""
     make_folder(folder)
+    refuse_moved_from(overlay.path)
     # Objects that lie here are read so soon that no other request need go before, and one thread wakes nobody.
     threads = words.threads or (THREADS if "--remote" in source else 1)
     showing = kernel.Showing(words.mountd, noted.tree, source, overlay.path, folder, SECONDS_LOCKED, noted.seconds,

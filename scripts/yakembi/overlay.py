@@ -14,6 +14,7 @@ import contextlib
 import errno
 import fcntl
 import os
+import pathlib
 import re
 import time
 from typing import NamedTuple
@@ -29,8 +30,10 @@ NOTE_BYTES = 103
 NUMBERED = re.compile("0|[1-9][0-9]*")
 # Of a killed run: changes that aren't in numbered files yet.
 JOURNAL = "journal"
+# mountd's, which it holds open.
+LOCK = "lock"
 # By one of these, or a numbered file, a folder is known as an overlay.
-KNOWN_BY = {NOTE, JOURNAL, "lock"}
+KNOWN_BY = {NOTE, JOURNAL, LOCK}
 # What is in a disk's top before anything is.
 LOST_AND_FOUND = "lost+found"
 
@@ -47,6 +50,20 @@ TRIES, SECONDS_BETWEEN = 10, 0.01
 
 class InUse(Refusal):
     """Another run has the overlay."""
+
+
+def refuse_moved_from(path: str) -> None:
+    """A Refusal, where a folder that lay at this path was moved or removed while a `mountd fuse` has it, which finds
+    its files by the path: two would write into one folder."""
+    for process in pathlib.Path("/proc").glob("[0-9]*"):
+        # One that ended, or is another user's, has none of ours.
+        with contextlib.suppress(OSError, ValueError, IndexError):
+            words = (process / "cmdline").read_bytes().split(b"\0")
+            if words[1] == b"fuse" and words[words.index(b"--overlay") + 1] == os.fsencode(path):
+                locks = {os.readlink(file) for file in (process / "fd").iterdir()}
+                if os.path.join(path, LOCK) not in locks:
+                    raise Refusal(f"a mount that goes on (process {process.name}) has its overlay at {path}, which was "
+                                  "moved or removed meanwhile: end that mount first, or use another path")
 
 
 class Noted(NamedTuple):
