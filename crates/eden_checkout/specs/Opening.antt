@@ -30,6 +30,8 @@ use Rattle.eden_overlay.specs.Counting.{root_from, listing_at, HasGoodNumbers}
 use Rattle.eden_overlay.specs.Rescanning.{ExplainsKind, HasNoNext}
 use Rattle.eden_overlay.specs.Soundness.{AreSound}
 use Rattle.eden_inode.specs.Tables.{Table, shows_numbers}
+use Rattle.eden_cache.specs.Cache.{Cache}
+use Rattle.eden_checkout.specs.Checkouts.{Checkout}
 use Rattle.eden_checkout.specs.declared.fault.OpenFault.{OpenFault}
 use Rattle.eden_checkout.specs.declared.fault.OpenFault.TheVariants as opens
 use Rattle.eden_checkout.specs.declared.opening.Opening.{Opening}
@@ -108,6 +110,13 @@ abbrev pub ShowsNumbersOf : {W F : Type 0} → Files F W → Id → Stored → T
 ShowsNumbersOf f root F t = (p : Path) → shows_numbers f t p ≡ files_number root F p
 
 -- ---- what is opened
+
+-- nothing was asked of the checkout of that commit yet, which has that cache
+pub record IsFresh {F : Type 0} (cache : Cache) (root : Id) (t : Checkout F) : Type 0 where
+  pub clock : t.inodes.clock ≡ 0
+  pub changes : t.inodes.changes ≡ 0
+  pub cached : t.cache ≡ cache
+  pub commit : t.root ≡ root
 
 pub record Starts (how : Opening) (root : Id) (F : Stored) (start : Start) : Type 0 where
   pub origin : start.origin ≡ root_from root (root_file F)

@@ -9,7 +9,7 @@ ghost use Rattle.eden_overlay.specs.Held.{HoldsState, without};
 ghost use Rattle.eden_overlay.specs.Soundness.{AreSound};
 ghost use Rattle.eden_checkout.specs.declared.opening.Opening.TheVariants as opening;
 ghost use Rattle.eden_checkout.specs.Opening.{CanOpen, MayOpen, Finds, files_show, ShowsNumbersOf};
-ghost use Rattle.eden_checkout.specs.Opening.{IsRefusal};
+ghost use Rattle.eden_checkout.specs.Opening.{IsFresh, IsRefusal};
 
 use crate::closing::{as_files, store_state};
 use crate::fault::OpenFault;
@@ -73,8 +73,7 @@ impl<A: Allocator + Clone, W: World, F: Files<W>> Checkout<A, W, F> {
             → IfOk result (λ c. Backs W.numbers (shows_numbers F.Files c.inodes) c.inodes.next) }
         ensures stored { W.honest → IfOk result (λ c. F.stored c.inodes.files ≡ without (F.stored files) 0) }
         ensures next { W.honest → IfOk result (λ c. Finds opening.Closed root (F.stored files) c.inodes.next) }
-        ensures fresh { IfOk result
-            (λ c. (c.inodes.clock ≡ 0) × ((c.inodes.changes ≡ 0) × ((c.cache ≡ cache) × (c.root ≡ root)))) }
+        ensures fresh { IfOk result (IsFresh cache root) }
         ensures saved { IfOk result (λ c. AreSaved c.inodes.root) }
         ensures fault { IfErr result
             (λ e. IsRefusal opening.Closed W.honest root (F.stored files) (F.failures files) (F.failures e.1) e.0) }
@@ -107,8 +106,7 @@ impl<A: Allocator + Clone, W: World, F: Files<W>> Checkout<A, W, F> {
             → IfOk result (λ c. Backs W.numbers (shows_numbers F.Files c.inodes) c.inodes.next) }
         ensures stored { W.honest → IfOk result (λ c. F.stored c.inodes.files ≡ without (F.stored files) 0) }
         ensures next { W.honest → IfOk result (λ c. Finds opening.Rescan root (F.stored files) c.inodes.next) }
-        ensures fresh { IfOk result
-            (λ c. (c.inodes.clock ≡ 0) × ((c.inodes.changes ≡ 0) × ((c.cache ≡ cache) × (c.root ≡ root)))) }
+        ensures fresh { IfOk result (IsFresh cache root) }
         ensures saved { IfOk result (λ c. AreSaved c.inodes.root) }
         ensures fault { IfErr result
             (λ e. IsRefusal opening.Rescan W.honest root (F.stored files) (F.failures files) (F.failures e.1) e.0) }
@@ -135,8 +133,7 @@ impl<A: Allocator + Clone, W: World, F: Files<W>> Checkout<A, W, F> {
             → IfOk result (λ c. Backs W.numbers (shows_numbers F.Files c.inodes) c.inodes.next) }
         ensures stored { W.honest → IfOk result (λ c. F.stored c.inodes.files ≡ without (F.stored files) 0) }
         ensures next { W.honest → IfOk result (λ c. Finds opening root (F.stored files) c.inodes.next) }
-        ensures fresh { IfOk result
-            (λ c. (c.inodes.clock ≡ 0) × ((c.inodes.changes ≡ 0) × ((c.cache ≡ cache) × (c.root ≡ root)))) }
+        ensures fresh { IfOk result (IsFresh cache root) }
         ensures saved { IfOk result (λ c. AreSaved c.inodes.root) }
         ensures fault { IfErr result
             (λ e. IsRefusal opening W.honest root (F.stored files) (F.failures files) (F.failures e.1) e.0) }
