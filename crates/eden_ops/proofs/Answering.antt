@@ -31,8 +31,8 @@ use Rattle.eden_inode.specs.declared.seen.Seen.{Seen}
 use Rattle.eden_inode.specs.Tables.{Table, shows}
 use Rattle.eden_model.specs.declared.attempt.Attempt.{Attempt}
 use Rattle.eden_model.specs.declared.attempt.Attempt.TheVariants.{Finished}
-use Rattle.eden_ops.specs.declared.answer.Stop.{Stop}
-use Rattle.eden_ops.specs.declared.answer.Stop.TheVariants as stop
+use Rattle.eden_ops.specs.declared.walk_end.Stop.{Stop}
+use Rattle.eden_ops.specs.declared.walk_end.Stop.TheVariants as stop
 use Rattle.eden_ops.specs.Attempts.{Attempts, IsUnsaved, Wants, IsUnsized, Meets, MeetsShown, Lacks, IsShown, shown_node, object_kind, stopped}
 use Rattle.eden_cache.specs.Stock.{FindsTheSame}
 use Rattle.eden_ops.specs.Faults.{IsDamaged, WantsNumbers, IsCaused, IsLawful, Makes, creates, makes_dir, links}

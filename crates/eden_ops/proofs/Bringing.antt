@@ -28,8 +28,8 @@ use Rattle.eden_coupling.specs.NumberKept.{KeepsNumbers}
 use Rattle.eden_inode.specs.Faults.{AreBadNumbers, IsNumbersFault}
 use Rattle.eden_inode.specs.Saved.{HasNumbers, LacksNumbers}
 use Rattle.eden_inode.specs.Tables.{Table, HasTree, HasNoTree, LoadsStored, IsLoadFault, IsContentFault, IsNumberedFault}
-use Rattle.eden_ops.specs.declared.answer.Stop.{Stop}
-use Rattle.eden_ops.specs.declared.answer.Stop.TheVariants as stop
+use Rattle.eden_ops.specs.declared.walk_end.Stop.{Stop}
+use Rattle.eden_ops.specs.declared.walk_end.Stop.TheVariants as stop
 use Rattle.eden_ops.specs.Attempts.{IsUnsaved, Wants, object_kind}
 use Rattle.eden_ops.specs.Contents.{HasContent}
 use Rattle.eden_ops.specs.Faults.{HoldsNone, own, numbers, IsCaused}

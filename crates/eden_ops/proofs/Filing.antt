@@ -27,7 +27,7 @@ use Rattle.eden_inode.specs.declared.seen.Seen.{Seen}
 use Rattle.eden_inode.specs.Tables.{Table, shows}
 use Rattle.eden_materialise.specs.Faults.{IsStoreFault}
 use Rattle.eden_model.specs.declared.attempt.Attempt.TheVariants.{Finished}
-use Rattle.eden_ops.specs.declared.answer.Stop.{Stop}
+use Rattle.eden_ops.specs.declared.walk_end.Stop.{Stop}
 use Rattle.eden_ops.specs.Attempts.{Attempts, IsShown, IsUnsized, Meets, MeetsShown, Lacks, shown_node, stopped}
 use Rattle.eden_cache.specs.Stock.{FindsTheSame}
 use Rattle.eden_ops.specs.Contents.{IsFileAt}

@@ -10,9 +10,9 @@ use Rattle.eden_tree.specs.Paths.{row_at}
 use Rattle.eden_coupling.specs.ShownLaws.{AreDirectories, ShowsBelow, ShowsAbsent}
 use Rattle.eden_inode.specs.declared.seen.Seen.{Seen}
 use Rattle.eden_inode.specs.Tables.{Table, shows}
-use Rattle.eden_ops.specs.declared.answer.Stop.{Stop}
-use Rattle.eden_ops.specs.declared.answer.Stop.TheVariants as stop
-use Rattle.eden_ops.specs.declared.answer.Walked.TheVariants as walked
+use Rattle.eden_ops.specs.declared.walk_end.Stop.{Stop}
+use Rattle.eden_ops.specs.declared.walk_end.Stop.TheVariants as stop
+use Rattle.eden_ops.specs.declared.walk_end.Walked.TheVariants as walked
 use Rattle.eden_ops.specs.Attempts.{IsSeen, IsShown, Meets, MeetsShown, EndsShown}
 use Rattle.eden_ops.specs.Known.{known}
 use Rattle.eden_ops.proofs.Seeing.{shown_there, meets_error, meets_absent, meets_here}

@@ -27,8 +27,8 @@ use Rattle.eden_overlay.specs.Held.{saved_at}
 use Rattle.eden_coupling.proofs.CallerLemmas.{put_form, put_shown, move_shown}
 use Rattle.eden_inode.specs.Tables.{Table, shows, shows_numbers, ShowsSameNumbers}
 use Rattle.eden_materialise.specs.Renumbering.{PutsNumber, TakesNumbers, MovesNumbers}
-use Rattle.eden_ops.specs.declared.answer.Stop.{Stop}
-use Rattle.eden_ops.specs.declared.answer.Stop.TheVariants as stop
+use Rattle.eden_ops.specs.declared.walk_end.Stop.{Stop}
+use Rattle.eden_ops.specs.declared.walk_end.Stop.TheVariants as stop
 use Rattle.eden_materialise.specs.declared.new_entry.NewEntry.{NewEntry}
 use Rattle.eden_model.specs.declared.node.Node.{Node}
 use Rattle.eden_ops.specs.Attempts.{stopped}

@@ -30,8 +30,8 @@ use Rattle.eden_coupling.specs.Saving.{unmarked, AreAlikeUnmarked}
 use Rattle.eden_coupling.proofs.CallerLemmas.{place_at, stored_rising}
 use Rattle.eden_inode.specs.Tables.{Table}
 use Rattle.eden_materialise.specs.EntryMoves.{IsMoved, IsUnmoved}
-use Rattle.eden_ops.specs.declared.answer.Stop.{Stop}
-use Rattle.eden_ops.specs.declared.answer.Stop.TheVariants as stop
+use Rattle.eden_ops.specs.declared.walk_end.Stop.{Stop}
+use Rattle.eden_ops.specs.declared.walk_end.Stop.TheVariants as stop
 use Rattle.eden_ops.specs.Attempts.{stopped}
 use Rattle.eden_ops.specs.Keeping.{Keeps}
 use Rattle.eden_ops.specs.Leaving.{IsFirstWalked, StampsItsWalk}

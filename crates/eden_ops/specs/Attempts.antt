@@ -31,10 +31,10 @@ use Rattle.eden_inode.specs.declared.seen.Seen.{Seen}
 use Rattle.eden_inode.specs.Tables.{Table, shows}
 use Rattle.eden_model.specs.declared.attempt.Attempt.{Attempt}
 use Rattle.eden_model.specs.declared.attempt.Attempt.TheVariants.{Finished, Need}
-use Rattle.eden_ops.specs.declared.answer.Stop.{Stop}
-use Rattle.eden_ops.specs.declared.answer.Stop.TheVariants as stop
-use Rattle.eden_ops.specs.declared.answer.Walked.{Walked}
-use Rattle.eden_ops.specs.declared.answer.Walked.TheVariants as walked
+use Rattle.eden_ops.specs.declared.walk_end.Stop.{Stop}
+use Rattle.eden_ops.specs.declared.walk_end.Stop.TheVariants as stop
+use Rattle.eden_ops.specs.declared.walk_end.Walked.{Walked}
+use Rattle.eden_ops.specs.declared.walk_end.Walked.TheVariants as walked
 use Rattle.eden_ops.specs.Known.{known, place_on, place}
 use Rattle.eden_cache.specs.Stock.{object_at, size_at, FindsTheSame}
 use Rattle.eden_ops.specs.Keeping.{Keeps}

@@ -13,8 +13,8 @@ use Rattle.eden_overlay.specs.Held.{own_files}
 use Rattle.eden_tree.specs.Directory.{Row, child_of}
 use Rattle.eden_tree.specs.Paths.{row_at}
 use Rattle.eden_inode.specs.Tables.{Table}
-use Rattle.eden_ops.specs.declared.refilling.Form.{Form}
-use Rattle.eden_ops.specs.declared.refilling.Form.TheVariants as form
+use Rattle.eden_ops.specs.declared.refill.Form.{Form}
+use Rattle.eden_ops.specs.declared.refill.Form.TheVariants as form
 
 -- the entry at the path is a file or a link of that origin
 pub record HasContent (p : Path) (x : Row) (o : Origin) : Type 0 where

@@ -10,7 +10,7 @@ use Rattle.eden_tree.specs.Directory.{Row}
 use Rattle.eden_coupling.specs.Saving.{IsSavedAbove}
 use Rattle.eden_inode.specs.Tables.{Table, shows, ShowsSameNumbers}
 use Rattle.eden_materialise.specs.Faults.{IsStoreFault}
-use Rattle.eden_ops.specs.declared.refilling.Form.{Form}
+use Rattle.eden_ops.specs.declared.refill.Form.{Form}
 use Rattle.eden_ops.specs.Changes.{SameNames, Leaves}
 use Rattle.eden_ops.specs.Contents.{IsFileAt, IsContent, made}
 use Rattle.eden_ops.specs.Keeping.{Keeps}

@@ -15,8 +15,8 @@ use Rattle.eden_tree.specs.Paths.{row_at}
 use Rattle.eden_cache.specs.Cache.{Cache}
 use Rattle.eden_inode.specs.declared.seen.Seen.{Seen}
 use Rattle.eden_inode.specs.Tables.{Table, shows}
-use Rattle.eden_ops.specs.declared.answer.Stop.{Stop}
-use Rattle.eden_ops.specs.declared.answer.Stop.TheVariants as stop
+use Rattle.eden_ops.specs.declared.walk_end.Stop.{Stop}
+use Rattle.eden_ops.specs.declared.walk_end.Stop.TheVariants as stop
 use Rattle.eden_ops.specs.Attempts.{IsUnsaved, Wants}
 use Rattle.eden_ops.specs.Faults.{IsCaused}
 use Rattle.eden_ops.specs.Known.{known, place_on}

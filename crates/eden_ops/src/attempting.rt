@@ -16,15 +16,19 @@ ghost use Rattle.eden_ops.specs.Trails.{components, first_of, remembered, walked
 ghost use Rattle.eden_inode.specs.Tables.{shows_numbers};
 ghost use Rattle.eden_inode.specs.Trails.{Leads};
 
-use crate::adding::{create, mkdir, symlink};
-use crate::emptied::rmdir;
-use crate::exec::set_exec;
 use crate::laws::keeps_laws;
 use crate::looks::look;
 use crate::place::{Place, recall};
-use crate::removing::unlink;
-use crate::renaming::rename;
-use crate::writing::{patch, truncate, write};
+use crate::requests::create::create;
+use crate::requests::mkdir::mkdir;
+use crate::requests::patch::patch;
+use crate::requests::rename::rename;
+use crate::requests::rmdir::rmdir;
+use crate::requests::set_exec::set_exec;
+use crate::requests::symlink::symlink;
+use crate::requests::truncate::truncate;
+use crate::requests::unlink::unlink;
+use crate::requests::write::write;
 use eden_cache::Stock;
 use eden_inode::{Inodes, Trail};
 use eden_model::{Attempt, Request, World, backing_laws};

@@ -12,7 +12,7 @@ ghost use Rattle.eden_cache.specs.Stock.{FindsTheSame, object_at};
 ghost use Rattle.eden_ops.specs.Keeping.{Keeps};
 ghost use Rattle.eden_ops.specs.Known.{IsLoadedAt};
 
-use crate::answer::Stop;
+use crate::walk_end::Stop;
 use eden_cache::{Stock, cache_laws};
 use eden_inode::Inodes;
 use eden_model::{Fault, Id, Key, Name, ObjKind, Origin, TreeEntry, World};

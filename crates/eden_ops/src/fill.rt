@@ -5,7 +5,7 @@ ghost use Rattle.eden_tree.specs.Directory.{Row};
 ghost use Rattle.eden_ops.specs.Contents.{IsFileAt};
 ghost use Rattle.eden_ops.specs.Refilling.{Fills};
 
-use crate::settling::settle;
+use crate::settle::settle;
 use eden_coupling::shown_laws;
 use eden_inode::Inodes;
 use eden_materialise::store_content;

@@ -10,11 +10,11 @@ ghost use Rattle.eden_ops.specs.Trails.{Counts, LeadsToNeed, first_of};
 ghost use Rattle.eden_inode.specs.Tables.{shows_numbers};
 ghost use Rattle.eden_inode.specs.Trails.{Leads};
 
-use crate::kinds::kind;
-use crate::links::readlink;
-use crate::listing::list;
-use crate::reading::read;
-use crate::sizes::stat;
+use crate::requests::kind::kind;
+use crate::requests::list::list;
+use crate::requests::read::read;
+use crate::requests::readlink::readlink;
+use crate::requests::stat::stat;
 use eden_cache::Stock;
 use eden_inode::{Inodes, Trail};
 use eden_model::{Attempt, Request, World};

@@ -8,9 +8,9 @@ ghost use Rattle.eden_ops.specs.Stamps.{IsWalked};
 ghost use Rattle.eden_ops.specs.Trails.{Counts};
 ghost use Rattle.eden_inode.specs.Trails.{Leads};
 
-use crate::answer::Stop;
 use crate::bring::bring;
 use crate::laws::keeps_laws;
+use crate::walk_end::Stop;
 use eden_cache::Stock;
 use eden_coupling::shown_laws;
 use eden_inode::{Inodes, Seen, Trail};

@@ -4,8 +4,8 @@ ghost use Rattle.eden_ops.specs.Stamps.{IsWalked};
 ghost use Rattle.eden_ops.specs.Trails.{Counts};
 ghost use Rattle.eden_inode.specs.Trails.{Leads};
 
-use crate::answer::{Stop, Walked};
 use crate::meet::meet;
+use crate::walk_end::{Stop, Walked};
 use eden_cache::Stock;
 use eden_inode::{Inodes, Trail};
 use eden_model::{Path, World};

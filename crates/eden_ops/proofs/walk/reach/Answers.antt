@@ -1,5 +1,5 @@
 use Rattle.std.proofs.Common.{subst}
-use Rattle.eden_ops.specs.declared.answer.Stop.{Stop}
+use Rattle.eden_ops.specs.declared.walk_end.Stop.{Stop}
 use Rattle.eden_ops.specs.Attempts.{Ends, walked_by}
 use Rattle.eden_ops.proofs.Reached.{met_passes}
 use Rattle.eden_ops.proofs.walk.reach.Goals as goal
