@@ -9,3 +9,6 @@ pub const MAX_TARGET: u64 = 4_095;
 
 /// The most entries in one listing.
 pub const MAX_ENTRIES: u64 = 1_000;
+
+/// The numbers of inodes are below this one.
+pub const NUMBER_END: u64 = 1 << 63;

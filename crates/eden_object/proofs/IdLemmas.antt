@@ -10,7 +10,8 @@ use Rattle.hex.specs.Hex.{decode_pairs, decode_sized, encode_lower, encode_with,
 use Rattle.hex.specs.declared.error.FromHexError.{FromHexError}
 use Rattle.hex.proofs.HexLemmas.{decode_of-even, decode_sized-ok, decode_sized-twice}
 use Rattle.hex.proofs.Pairs.{cons_byte, decode_pairs-ok_pair}
-use Rattle.eden_object.specs.IdText.{IsIdText, is_lower_hex_digit}
+use Rattle.eden_model.specs.Bytes.{is_lower_hex_digit}
+use Rattle.eden_object.specs.IdText.{IsIdText}
 
 abbrev IsLowerDigit : ℕ → Type 0
 IsLowerDigit c = is_lower_hex_digit c ≡ true

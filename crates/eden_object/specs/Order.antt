@@ -1,5 +1,6 @@
 -- The order in which Git writes a tree's entries: by the bytes of their names, a directory's name as if it ended with `/`.
 use Rattle.std.specs.Prelude.{◌≡◌, ℕ, ◌<◌, List, [], ◌∷◌, ◌++◌, slice_index}
+use Rattle.eden_model.specs.Bytes.{slash_byte}
 use Rattle.eden_model.specs.declared.kind.Mode.{Mode}
 use Rattle.eden_model.specs.declared.kind.Mode.TheVariants.{File, Exec, Link, Dir, Gitlink}
 use Rattle.eden_model.specs.declared.tree_entry.TreeEntry.{TreeEntry}
@@ -8,7 +9,7 @@ abbrev pub key_end : Mode → List ℕ
 key_end File = []
 key_end Exec = []
 key_end Link = []
-key_end Dir = 47 ∷ []
+key_end Dir = slash_byte ∷ []
 key_end Gitlink = []
 
 -- what an entry is ordered by

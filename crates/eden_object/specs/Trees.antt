@@ -2,6 +2,7 @@
 use Rattle.std.specs.Prelude.{◌≡◌, ◌≢◌, ℕ, List, [], ◌∷◌, ◌++◌, ◌||◌, length, Option, Some, None, if◌then◌else◌, codes}
 use Rattle.std.specs.List.{AllByRecursion}
 use Rattle.std.specs.Str.{bytes_eq}
+use Rattle.eden_model.specs.Bytes.{space_byte, nul_byte}
 use Rattle.eden_model.specs.declared.kind.Mode.{Mode}
 use Rattle.eden_model.specs.declared.kind.Mode.TheVariants.{File, Exec, Link, Dir, Gitlink}
 use Rattle.eden_model.specs.declared.tree_entry.TreeEntry.{TreeEntry}
@@ -23,7 +24,7 @@ pub record IsEntryText (e : TreeEntry) (text : List ℕ) : Type 0 where
   pub spelled : spelled_mode mode ≡ Some e.mode
   pub name : name_refusal e.name ≡ None
   pub id : length e.id.bytes ≡ 20
-  pub is : text ≡ mode ++ 32 ∷ e.name ++ 0 ∷ e.id.bytes
+  pub is : text ≡ mode ++ space_byte ∷ e.name ++ nul_byte ∷ e.id.bytes
 
 -- the body is the texts of these entries, one after the other
 abbrev pub AreEntries : List TreeEntry → List ℕ → Type 0

@@ -8,7 +8,7 @@ use eden_model::{Cause, Id, ObjKind};
 use std::alloc::Global;
 
 /// The most bytes that a framed object may have: a body of the most bytes, and the longest header before it.
-const FRAMED_LIMIT: usize = BODY_LIMIT + 16;
+pub const FRAMED_LIMIT: usize = BODY_LIMIT + 16;
 
 /// Whether the body is in the grammar of its kind.
 fn is_body(room: Option<Global>, kind: ObjKind, body: &[u8]) -> bool

@@ -1,6 +1,7 @@
 // Decoding a tree's body.
-ghost use Rattle.std.specs.Prelude.{◌≡◌, ◌↔◌, ◌^◌, ◌<◌, ◌≤◌, ℕ, List, length, IsTrue, IfOk, IfSome, IfNone};
+ghost use Rattle.std.specs.Prelude.{◌≡◌, ◌↔◌, ◌<◌, ◌≤◌, ℕ, List, length, IsTrue, IfOk, IfSome, IfNone};
 ghost use Rattle.eden_model.specs.declared.tree_entry.TreeEntry.{TreeEntry};
+ghost use Rattle.eden_object.specs.Frames.{most_body};
 ghost use Rattle.eden_object.specs.Trees.{AreEntries, IsTreeBody};
 
 use crate::frame::BODY_LIMIT;
@@ -45,9 +46,9 @@ pub(crate) fn read_entries(alloc: Global, body: &[u8]) -> Result<Vec<TreeEntry>,
 /// error is want of memory.
 pub fn decode_tree(alloc: Global, body: &[u8]) -> Result<Option<Vec<TreeEntry>>, AllocError>
     ensures found { IfOk result (λ read. IfSome read (λ entries. IsTreeBody entries.items body.now)) }
-    ensures short { IfOk result (λ read. IfSome read (λ entries. length body.now ≤ 2 ^ 30)) }
+    ensures short { IfOk result (λ read. IfSome read (λ entries. length body.now ≤ most_body)) }
     ensures none { IfOk result
-        (λ read. IfNone read ((es : List TreeEntry) → IsTreeBody es body.now → 2 ^ 30 < length body.now)) }
+        (λ read. IfNone read ((es : List TreeEntry) → IsTreeBody es body.now → most_body < length body.now)) }
 {
     if body.len() > BODY_LIMIT || !is_tree(Some(alloc), body) {
         return Ok(None);

@@ -1,12 +1,12 @@
 // Writing blobs and trees.
-ghost use Rattle.std.specs.Prelude.{◌≡◌, ◌↔◌, ◌^◌, ◌≤◌, ◌++◌, length, map, IsTrue, IfOk, OnOk};
+ghost use Rattle.std.specs.Prelude.{◌≡◌, ◌↔◌, ◌≤◌, ◌++◌, length, map, IsTrue, IfOk, OnOk};
 ghost use Rattle.std.specs.List.Sorted.{IsPermutation, IsSortedBy};
 ghost use Rattle.std.specs.Cmp.Lexicographic.{slice_cmp};
 ghost use Rattle.std.specs.Ordering.{is_lt, nat_cmp};
 ghost use Rattle.eden_object.specs.declared.word.Word.TheVariants as word;
 ghost use Rattle.eden_object.specs.Encoding as spec;
 ghost use Rattle.eden_object.specs.Encoding.{entry_text, tree_text, IsEncoded};
-ghost use Rattle.eden_object.specs.Frames.{frame, word_text};
+ghost use Rattle.eden_object.specs.Frames.{frame, most_body, word_text};
 ghost use Rattle.eden_object.specs.Order.{key_of, IsOrdered};
 ghost use Rattle.eden_object.specs.Trees.{AreEntries, IsEntryText, NamesDiffer};
 
@@ -100,7 +100,7 @@ fn tree_body(alloc: Global, entries: &[&TreeEntry]) -> Result<Vec<u8>, AllocErro
 
 /// The framed blob of the content, whose id `id_of` tells. The only error is want of memory.
 pub fn encode_blob(alloc: Global, content: &[u8]) -> Result<Vec<u8>, AllocError>
-    requires { length content.now ≤ 2 ^ 30 }
+    requires { length content.now ≤ most_body }
     ensures { IfOk result (λ framed. framed.items ≡ frame word.Blob content.now) }
 {
     framed(alloc, Word::Blob, content)
@@ -109,7 +109,7 @@ pub fn encode_blob(alloc: Global, content: &[u8]) -> Result<Vec<u8>, AllocError>
 /// Whether the entries are a tree that can be written: their names differ, and its body has at most 2^30 bytes. The
 /// only error is want of memory.
 pub fn is_encodable(alloc: Global, entries: &[TreeEntry]) -> Result<bool, AllocError>
-    ensures { IfOk result (λ is. IsTrue is ↔ (NamesDiffer entries.now × (length (tree_text entries.now) ≤ 2 ^ 30))) }
+    ensures { IfOk result (λ is. IsTrue is ↔ (NamesDiffer entries.now × (length (tree_text entries.now) ≤ most_body))) }
 {
     let mut names = Vec::new(alloc);
     let mut room = BODY_LIMIT;
@@ -129,7 +129,7 @@ pub fn is_encodable(alloc: Global, entries: &[TreeEntry]) -> Result<bool, AllocE
 /// memory.
 pub fn encode_tree(alloc: Global, entries: &[TreeEntry]) -> Result<Vec<u8>, AllocError>
     requires differ { NamesDiffer entries.now }
-    requires short { length (tree_text entries.now) ≤ 2 ^ 30 }
+    requires short { length (tree_text entries.now) ≤ most_body }
     ensures written { IfOk result (λ framed. IsEncoded entries.now framed.items) }
     ensures kept { IsOrdered entries.now
         → IfOk result (λ framed. framed.items ≡ frame word.Tree (tree_text entries.now)) }

@@ -1,20 +1,20 @@
 // Framed objects: the digest, the header and the body.
-ghost use Rattle.std.specs.Prelude.{◌≡◌, ◌≢◌, ◌^◌, ◌<◌, ◌≤◌, ◌↔◌, ℕ, List, length, MatchOption, IfSome, IfNone, IsTrue};
+ghost use Rattle.std.specs.Prelude.{◌≡◌, ◌≢◌, ◌<◌, ◌≤◌, ◌↔◌, ℕ, List, length, MatchOption, IfSome, IfNone, IsTrue};
 ghost use Rattle.std.specs.Prelude.{decimal};
 ghost use Rattle.sha1.specs.Sha1.{sha1};
 ghost use Rattle.eden_object.specs.declared.word.Word.{Word};
 ghost use Rattle.eden_object.specs.declared.word.Word.TheVariants as word;
 ghost use Rattle.eden_object.specs.Frames as spec;
-ghost use Rattle.eden_object.specs.Frames.{frame, word_text};
+ghost use Rattle.eden_object.specs.Frames.{frame, most_body, word_text};
 
 use crate::split::split_at_byte;
 use crate::word::Word;
-use eden_model::{Id, ObjKind};
+use eden_model::{Id, MAX_FILE, ObjKind};
 use itoa::Buffer;
 use sha1::Sha1;
 
 /// The most bytes that a body may have.
-pub(crate) const BODY_LIMIT: usize = 1 << 30;
+pub const BODY_LIMIT: usize = MAX_FILE as usize;
 
 /// The id of framed bytes: their SHA-1 (FIPS 180-4).
 pub fn id_of(framed: &[u8]) -> Id
@@ -77,8 +77,9 @@ pub(crate) fn read_frame(framed: &[u8]) -> Option<(Word, &[u8])>
 /// 2^30 bytes.
 pub fn decode_blob(framed: &[u8]) -> Option<&[u8]>
     ensures found { IfSome result (λ content. framed.now ≡ frame word.Blob content.now) }
-    ensures short { IfSome result (λ content. length content.now ≤ 2 ^ 30) }
-    ensures none { IfNone result ((content : List ℕ) → framed.now ≡ frame word.Blob content → 2 ^ 30 < length content) }
+    ensures short { IfSome result (λ content. length content.now ≤ most_body) }
+    ensures none { IfNone result
+        ((content : List ℕ) → framed.now ≡ frame word.Blob content → most_body < length content) }
 {
     let (word, content) = read_frame(framed)?;
     if word == Word::Blob && content.len() <= BODY_LIMIT {

@@ -1,7 +1,8 @@
 // An object's id as text.
 ghost use Rattle.std.specs.Prelude.{◌≡◌, ◌↔◌, IfSome, IsSome};
 ghost use Rattle.hex.specs.Hex.{encode_lower};
-ghost use Rattle.eden_object.specs.IdText.{IsIdText, is_lower_hex_digit};
+ghost use Rattle.eden_model.specs.Bytes.{is_lower_hex_digit};
+ghost use Rattle.eden_object.specs.IdText.{IsIdText};
 
 use eden_model::Id;
 use hex::FromHex;

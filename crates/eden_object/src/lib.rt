@@ -19,11 +19,11 @@ mod rows;
 mod split;
 mod word;
 
-pub use checks::check;
+pub use checks::{FRAMED_LIMIT, check};
 pub use decode::decode_tree;
 pub use eden_model::{Cause, Id, Key, Mode, Name, ObjKind, TreeEntry};
 pub use encode::{encode_blob, encode_tree, is_encodable};
-pub use frame::{decode_blob, id_of};
+pub use frame::{BODY_LIMIT, decode_blob, id_of};
 pub use id_text::parse_id;
 pub use laws::{one_frame, one_list};
 pub use object::Object;

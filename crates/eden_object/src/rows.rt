@@ -7,7 +7,7 @@ ghost use Rattle.eden_object.specs.Rows.{entry_of, BeginsWith, HasEntries};
 
 use crate::row::Row;
 use crate::split::split_at_byte;
-use eden_model::{Id, Mode};
+use eden_model::{Id, MAX_NAME, Mode};
 
 fn read_mode(text: &[u8]) -> Option<Mode>
     ensures { result ≡ spelled_mode text.now }
@@ -31,7 +31,7 @@ fn is_name(text: &[u8]) -> bool
     ensures { IsTrue result ↔ (name_refusal text.now ≡ None) }
 {
     !text.is_empty()
-        && text.len() <= 255
+        && text.len() <= MAX_NAME
         && text != b".".as_slice()
         && text != b"..".as_slice()
         && !text.contains(&b'/')

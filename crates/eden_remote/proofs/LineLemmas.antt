@@ -7,7 +7,8 @@ use Rattle.std.proofs.lemmas.Str.{IsUtf8-from_ascii}
 use Rattle.std.proofs.lemmas.Str.Ascii.{IsAscii-nil, IsAscii-cons}
 use Rattle.std.specs.List.{AllPass}
 use Rattle.std.specs.Str.{IsAscii, IsUtf8}
-use Rattle.eden_object.specs.IdText.{IsIdText, is_lower_hex_digit}
+use Rattle.eden_model.specs.Bytes.{is_lower_hex_digit}
+use Rattle.eden_object.specs.IdText.{IsIdText}
 use Rattle.eden_remote.specs.Protocol.{IsOneLine, get_line}
 
 abbrev IsLowerDigit : ℕ → Type 0

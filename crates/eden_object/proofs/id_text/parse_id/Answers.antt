@@ -1,7 +1,7 @@
 use Rattle.std.proofs.Common.{rules, ◌∙◌, ap, sym}
 use Rattle.std.specs.List.{AllPass}
 use Rattle.std.specs.Result.{result_ok}
-use Rattle.eden_object.specs.IdText.{is_lower_hex_digit}
+use Rattle.eden_model.specs.Bytes.{is_lower_hex_digit}
 use Rattle.eden_object.proofs.IdLemmas.{encode_lower-decoded, id_text_decodes, none_is_not_some}
 use Rattle.eden_object.proofs.id_text.parse_id.Goals as goal
 
