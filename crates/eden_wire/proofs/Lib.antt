@@ -12,6 +12,7 @@ pub mod Splitting
 pub mod Decoding
 pub mod DataLemmas
 pub mod FieldLemmas
+pub mod Fronts
 pub mod RequestLemmas
 pub mod SessionLemmas
 pub mod RunLemmas

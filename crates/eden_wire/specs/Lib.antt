@@ -12,4 +12,5 @@ pub mod Faults
 pub mod Splits
 pub mod Digits
 pub mod Scans
+pub mod Fronts
 pub mod Turns

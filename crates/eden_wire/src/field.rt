@@ -14,7 +14,8 @@ use crate::word::Sort;
 use eden_model::{Bytes, Errno, Name, Path};
 use std::alloc::{AllocError, Global};
 
-fn read_bit(text: &[u8]) -> Option<bool>
+/// The bit that the text spells.
+pub(crate) fn read_bit(text: &[u8]) -> Option<bool>
     ensures { MatchOption result ((b : Bool) → text.now ≢ bit_text b) (λ b. text.now ≡ bit_text b) }
 {
     match text {
@@ -25,7 +26,7 @@ fn read_bit(text: &[u8]) -> Option<bool>
 }
 
 /// Whether the text is `-`, or two lower-case digits a byte for at least one byte.
-fn is_data(text: &[u8]) -> bool
+pub(crate) fn is_data(text: &[u8]) -> bool
     ensures { MatchBool result (SpellsData text.now) ((bytes : List ℕ) → AreBytes bytes → text.now ≢ hex_text bytes) }
 {
     if text == b"-".as_slice() {
@@ -38,7 +39,7 @@ fn is_data(text: &[u8]) -> bool
 }
 
 /// The bytes that the text spells. The only error is want of memory.
-fn read_data(alloc: Global, text: &[u8]) -> Result<Bytes, AllocError>
+pub(crate) fn read_data(alloc: Global, text: &[u8]) -> Result<Bytes, AllocError>
     requires { SpellsData text.now }
     ensures { IfOk result (λ bytes. AreBytes bytes × (text.now ≡ hex_text bytes)) }
 {

@@ -15,6 +15,7 @@ mod name_text;
 mod number;
 mod output;
 mod path_text;
+mod plain;
 mod reply;
 mod request;
 mod service;

@@ -71,6 +71,7 @@ impl Output {
         self.failed
     }
 
+    #[inline(always)]
     fn has_room(&self, bytes: &[u8]) -> bool
         ensures { IsTrue result → length self.now.pending.items + length bytes.now ≤ vec_capacity self.now.pending }
     {
@@ -78,6 +79,7 @@ impl Output {
     }
 
     // Holds the bytes, for which there is room.
+    #[inline(always)]
     fn hold(&mut self, bytes: &[u8])
         requires { length self.old.pending.items + length bytes.now ≤ vec_capacity self.old.pending }
         ensures pending { self.new.pending.items ≡ self.old.pending.items ++ bytes.now }
@@ -117,7 +119,17 @@ impl Output {
         self.failed = sent.is_err();
     }
 
-    /// Hands over the bytes.
+    // Hands over the bytes where there is no room for them beside what is held.
+    #[inline(never)]
+    fn put_beyond<W: Write>(&mut self, writer: &mut W, bytes: &[u8])
+        ensures { Grows (W.contents writer.old) (W.contents writer.new) self.old self.new bytes.now }
+    {
+        self.write_out(writer);
+        self.put_first(writer, bytes);
+    }
+
+    /// Hands over the bytes. Few bytes, for which there is room, are copied without a call.
+    #[inline(always)]
     pub(crate) fn put<W: Write>(&mut self, writer: &mut W, bytes: &[u8])
         ensures { Grows (W.contents writer.old) (W.contents writer.new) self.old self.new bytes.now }
     {
@@ -125,8 +137,7 @@ impl Output {
             self.hold(bytes);
             return;
         }
-        self.write_out(writer);
-        self.put_first(writer, bytes);
+        self.put_beyond(writer, bytes);
     }
 
     /// Writes out what is held, and tells whether a write has failed.

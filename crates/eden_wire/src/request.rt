@@ -5,6 +5,7 @@ ghost use Rattle.eden_wire.specs.Fields.Field.{of_path};
 ghost use Rattle.eden_wire.specs.Scans.{ScansFields, SpellsRequest, Takes};
 
 use crate::field::{Fields, scan_fields};
+use crate::plain::read_plain;
 use crate::split::part_len;
 use crate::word::{Word, read_word};
 use eden_model::{Errno, Path, Request};
@@ -23,6 +24,18 @@ pub enum Item {
 
 /// The item that a line is, without its line feed. Want of memory, the only error, comes only where it is a request.
 pub fn read_request(alloc: Global, line: &[u8]) -> Result<Item, AllocError>
+    ensures item { IfOk result (Reads line.now) }
+    ensures memory { OnErr result (AsksSome line.now) }
+{
+    match read_plain(alloc, line) {
+        Some(request) => Ok(Item::Asks(request)),
+        None => read_any(alloc, line),
+    }
+}
+
+// The same for every line, in two passes: nothing is read into memory before the whole line was looked through.
+#[inline(never)]
+fn read_any(alloc: Global, line: &[u8]) -> Result<Item, AllocError>
     ensures item { IfOk result (Reads line.now) }
     ensures memory { OnErr result (AsksSome line.now) }
 {

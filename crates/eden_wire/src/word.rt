@@ -82,7 +82,7 @@ pub(crate) fn read_word(text: &[u8]) -> Option<Word>
 
 impl Word {
     /// How it is spelled.
-    fn text(self) -> &'static [u8]
+    pub(crate) fn text(self) -> &'static [u8]
         ensures { result.now ≡ word_text self }
     {
         match self {

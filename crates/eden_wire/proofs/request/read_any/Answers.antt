@@ -1,5 +1,5 @@
 use Rattle.eden_wire.proofs.RequestLemmas.{cut_at, no_word, no_fields, refused, asked, asks_some, on_err}
-use Rattle.eden_wire.proofs.request.read_request.Goals as goal
+use Rattle.eden_wire.proofs.request.read_any.Goals as goal
 
 pub returns-in_default-clause-item : goal.returns-in_default-clause-item
 returns-in_default-clause-item c = no_word _ _ _ (cut_at _ _ _ _ c.split_at.ensures.front c.split_at.ensures.back c.part_len.ensures) c.in_default.ensures
