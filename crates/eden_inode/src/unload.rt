@@ -12,7 +12,7 @@ ghost use Rattle.eden_tree.specs.Directory.{Row, child_of, with_child};
 ghost use Rattle.eden_coupling.specs.Listings.{listing_of};
 ghost use Rattle.eden_coupling.specs.NumberUnloads.{IsPutAway, UnloadsAway, MayGoAway};
 ghost use Rattle.eden_coupling.specs.Unloading.{IsSettled, HasNoneInside};
-ghost use Rattle.eden_inode.specs.Going.{IsUnloaded};
+ghost use Rattle.eden_inode.specs.Going.{IsUnloaded, MayGoInside, GoesWhole, GoesInside};
 
 use crate::fill::holds;
 use crate::gone::{Gone, NOTHING, ONE, both, refusal};
@@ -111,8 +111,15 @@ fn may_go<A: Allocator, W: World, F: Files<W>>(
     }
 }
 
-/// Unloads what is old enough inside a directory of that number and origin, the leaves first: what came of that, and
-/// whether it goes too.
+/// What came of an unload inside a loaded directory.
+#[derive(Clone, Copy)]
+struct Inside {
+    gone: Gone,
+    /// Whether the directory goes too.
+    goes: bool,
+}
+
+/// Unloads what is old enough inside a directory of that number and origin, the leaves first.
 #[cycle(unload)]
 fn unload_inside<A: Allocator, W: World, F: Files<W>>(
     dir: &mut Dir<A>,
@@ -122,21 +129,16 @@ fn unload_inside<A: Allocator, W: World, F: Files<W>>(
     alloc: Global,
     clock: u64,
     age: u64,
-) -> (Gone, bool)
-    requires may { (x : Row)
-        × ((x.number ≡ number)
-        × ((x.origin ≡ origin)
-        × ((child_of x ≡ Some dir.old) × MayGoAway W.honest clock age (F.stored overlay.old) x))) }
-    ensures goes { IsTrue result.1 → (x : Row) → x.number ≡ number → x.origin ≡ origin → child_of x ≡ Some dir.old
-        → (c : ℕ) × ((result.0.count ≡ min c u64.MAX)
-        × UnloadsAway W.honest clock age (F.stored overlay.old) x (F.stored overlay.new) (with_child None x) (c + 1)) }
-    ensures stays { IsFalse result.1 → (x : Row) → child_of x ≡ Some dir.old → (c : ℕ)
-        × ((result.0.count ≡ min c u64.MAX)
-        × UnloadsAway W.honest clock age (F.stored overlay.old) x (F.stored overlay.new)
-        (with_child (Some dir.new) x) c) }
-    ensures settled { IsFalse result.1 → (x : Row) → x.origin ≡ origin
-        → IsSettled clock age result.0.refused (with_child (Some dir.new) x) }
-    ensures counted { Counted (result.0.refused ≡ Some files.Device) (F.failures overlay.old) (F.failures overlay.new) }
+) -> Inside
+    requires may { MayGoInside W.honest clock age number origin dir.old (F.stored overlay.old) }
+    ensures goes { IsTrue result.goes
+        → GoesWhole W.honest clock age number origin dir.old (F.stored overlay.old) result.gone (F.stored overlay.new) }
+    ensures stays { IsFalse result.goes
+        → GoesInside W.honest clock age dir.old (F.stored overlay.old) result.gone dir.new (F.stored overlay.new) }
+    ensures settled { IsFalse result.goes → (x : Row) → x.origin ≡ origin
+        → IsSettled clock age result.gone.refused (with_child (Some dir.new) x) }
+    ensures counted { Counted (result.gone.refused ≡ Some files.Device)
+        (F.failures overlay.old) (F.failures overlay.new) }
 {
     let mut gone = NOTHING;
     for i in 0..dir.count() {
@@ -149,8 +151,11 @@ fn unload_inside<A: Allocator, W: World, F: Files<W>>(
         }
     }
     match may_go(dir, number, origin, overlay, alloc, clock, age) {
-        Ok(goes) => (gone, goes),
-        Err(fault) => (both(gone, refusal(fault)), false),
+        Ok(goes) => Inside { gone, goes },
+        Err(fault) => Inside {
+            gone: both(gone, refusal(fault)),
+            goes: false,
+        },
     }
 }
 
@@ -170,7 +175,7 @@ fn unload_entry<A: Allocator, W: World, F: Files<W>>(
 {
     let number = entry.number;
     let origin = entry.origin;
-    let (gone, goes) = match entry.directory_mut() {
+    let Inside { gone, goes } = match entry.directory_mut() {
         None => return NOTHING,
         Some(dir) => unload_inside(dir, number, origin, overlay, alloc, clock, age),
     };
