@@ -87,8 +87,8 @@ fn lived(alloc: Global, input: &str, said: &mut Vec<u8>) -> Result<Life, Fail> {
 const INPUT: &str =
     "read /bak/test.txt 0 100\nwrite /test.txt 0 56\nread /test.txt 0 100\nrename /bak /old\nlist / - 10\nstat /bak\n";
 
-const WANTED: &str =
-    "data 10 76657273696f6e20310a\ncount 1\ndata 10 56657273696f6e20320a\nok\nentries 3 file new.txt dir old file test.txt end\nerr 2 ENOENT\n";
+const WANTED: &str = "data 10 76657273696f6e20310a\ncount 1\ndata 10 56657273696f6e20320a\nok\n\
+        entries 3 file new.txt dir old file test.txt end\nerr 2 ENOENT\n";
 
 #[test]
 fn serves_an_honest_world(rt: HostRuntime) -> Result<(), Fail> {
