@@ -10,11 +10,12 @@ use Rattle.hex.specs.Hex.{encode_lower, encode_with, lower_digits, decode_of, Is
 use Rattle.hex.proofs.HexLemmas.{length-encode_with, decode_of-encode_lower}
 use Rattle.eden_wire.specs.Names.{AreBytes}
 use Rattle.eden_wire.specs.Splits.{Lacks}
-use Rattle.eden_wire.specs.Scans.{is_lower_digit, SpellsData}
+use Rattle.eden_model.specs.Bytes.{is_lower_hex_digit}
+use Rattle.eden_wire.specs.Scans.{SpellsData}
 use Rattle.eden_wire.specs.Sorts.{hex_text}
 
 abbrev pub IsDigit : ℕ → Type 0
-IsDigit c = is_lower_digit c ≡ true
+IsDigit c = is_lower_hex_digit c ≡ true
 
 abbrev digits_agree : ℕ → Bool
 digits_agree zero = true
@@ -26,10 +27,10 @@ digit_is = (Decides-below_and (λ d. slice_index lower_digits d == cond (nat_lt 
 
 abbrev all_digits : ℕ → Bool
 all_digits zero = true
-all_digits (suc d) = is_lower_digit (slice_index lower_digits d) && all_digits d
+all_digits (suc d) = is_lower_hex_digit (slice_index lower_digits d) && all_digits d
 
 digit_passes : (d : ℕ) → d < 16 → IsDigit (slice_index lower_digits d)
-digit_passes = (Decides-below_and (λ d. is_lower_digit (slice_index lower_digits d)) (λ d. IsDigit (slice_index lower_digits d)) all_digits (λ d. (λ e. e, λ e. e)) refl (λ _. refl) 16).0 refl
+digit_passes = (Decides-below_and (λ d. is_lower_hex_digit (slice_index lower_digits d)) (λ d. IsDigit (slice_index lower_digits d)) all_digits (λ d. (λ e. e, λ e. e)) refl (λ _. refl) 16).0 refl
 
 -- a digit has a value
 digit_value : (c : ℕ) → IsDigit c → (d : ℕ) × (d < 16) × (slice_index lower_digits d ≡ c)
@@ -99,16 +100,16 @@ odd_data text not odd = no_data text not (λ bytes small some e. let size = ap l
 pub empty_data : (text : List ℕ) → (text ≡ codes "-" → ⊥) → length text ≡ 0 → SpellsNoData text
 empty_data text not empty = no_data text not (λ bytes small some e. let size = ap length e ∙ length-encode_with lower_digits bytes in omega arith)
 
-passed : (text : List ℕ) → list_all is_lower_digit text ≡ true → AllByRecursion IsDigit text
+passed : (text : List ℕ) → list_all is_lower_hex_digit text ≡ true → AllByRecursion IsDigit text
 passed [] h = tt
-passed (c ∷ text) h = let parts = and_parts (is_lower_digit c) (list_all is_lower_digit text) h in (parts.0, passed text parts.1)
+passed (c ∷ text) h = let parts = and_parts (is_lower_hex_digit c) (list_all is_lower_hex_digit text) h in (parts.0, passed text parts.1)
 
-all_pass : (text : List ℕ) → AllByRecursion IsDigit text → list_all is_lower_digit text ≡ true
+all_pass : (text : List ℕ) → AllByRecursion IsDigit text → list_all is_lower_hex_digit text ≡ true
 all_pass [] h = refl
 all_pass (c ∷ text) h = rw (h.0, all_pass text h.1) refl
 
 -- an even number of bytes is data where all are digits
-pub digits_or_not : (text : List ℕ) (r : Bool) → (text ≡ codes "-" → ⊥) → 0 < length text → length text % 2 ≡ 0 → r ≡ list_all is_lower_digit text
+pub digits_or_not : (text : List ℕ) (r : Bool) → (text ≡ codes "-" → ⊥) → 0 < length text → length text % 2 ≡ 0 → r ≡ list_all is_lower_hex_digit text
     → MatchBool r (SpellsData text) (SpellsNoData text)
 digits_or_not text true not some even e = spells_data text some even (passed text (sym e))
 digits_or_not text false not some even e = no_data text not (λ bytes small long h. false≢true (e ∙ all_pass text (subst (AllByRecursion IsDigit) (sym h) (text_digits bytes small))))
@@ -153,4 +154,4 @@ hex_lacks (b ∷ bytes) small = plain (encode_lower (b ∷ bytes)) (text_digits 
   where
     plain : (text : List ℕ) → AllByRecursion IsDigit text → Lacks 32 text
     plain [] h = tt
-    plain (c ∷ text) h = (λ e. false≢true (ap is_lower_digit (sym e) ∙ h.0), plain text h.1)
+    plain (c ∷ text) h = (λ e. false≢true (ap is_lower_hex_digit (sym e) ∙ h.0), plain text h.1)

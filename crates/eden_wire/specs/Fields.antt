@@ -4,6 +4,7 @@ use Rattle.std.specs.Prelude.{ℕ, ◌^◌, ◌<◌, Bool, List, [], ◌∷◌, 
 use Rattle.std.specs.List.{AllByRecursion, flat_map}
 use Rattle.std.specs.Fmt.{decimal}
 use Rattle.hex.specs.Hex.{encode_lower}
+use Rattle.eden_model.specs.Bytes.{slash_byte}
 use Rattle.eden_model.specs.Names.{name_refusal}
 use Rattle.eden_model.specs.Paths.{path_refusal}
 use Rattle.eden_model.specs.declared.errno.Errno.{Errno}
@@ -19,7 +20,7 @@ pub data Field : Type 0 where
 -- `/` stands before each name of a path or alone, and `-` for no data or no name
 abbrev pub field_text : Field → List ℕ
 field_text (of_path []) = codes "/"
-field_text (of_path path) = flat_map (λ name. 47 ∷ name_text name) path
+field_text (of_path path) = flat_map (λ name. slash_byte ∷ name_text name) path
 field_text (of_number n) = decimal n
 field_text (of_bit bit) = if bit then codes "1" else codes "0"
 field_text (of_data []) = codes "-"

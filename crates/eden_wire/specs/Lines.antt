@@ -2,6 +2,7 @@
 use Rattle.std.specs.Prelude.{ℕ, ◌+◌, take, drop, ◌<◌, ◌≤◌, ◌≡◌, ◌≢◌, List, [], ◌∷◌, ◌++◌, length, Option, Some, None}
 use Rattle.std.specs.List.{AllByRecursion}
 use Rattle.std.specs.Io.KnownBytes.{IsAtEnd}
+use Rattle.eden_model.specs.Bytes.{line_feed}
 use Rattle.eden_model.specs.declared.errno.Errno.{Errno}
 use Rattle.eden_model.specs.declared.request.Request.{Request}
 use Rattle.eden_model.specs.declared.request.Request.TheVariants as request
@@ -34,12 +35,12 @@ NoLinePatches = (line : List ℕ) (path : Path) (offset : ℕ) (bytes : List ℕ
 
 -- no line feed among the bytes
 abbrev pub IsOneLine : List ℕ → Type 0
-IsOneLine bytes = AllByRecursion (λ b. b ≢ 10) bytes
+IsOneLine bytes = AllByRecursion (λ b. b ≢ line_feed) bytes
 
 -- the first line of the bytes, which is ended, has this length
 pub record IsLineOf (bytes : List ℕ) (n : ℕ) : Type 0 where
   pub inside : n < length bytes
-  pub split : bytes ≡ take n bytes ++ 10 ∷ drop (n + 1) bytes
+  pub split : bytes ≡ take n bytes ++ line_feed ∷ drop (n + 1) bytes
   pub one : IsOneLine (take n bytes)
 
 -- a line that is such an item
@@ -49,11 +50,12 @@ IsLine line item = IsOneLine line × (length line ≤ longest_line) × Reads lin
 -- the bytes are lines that are these items, after which the session goes on, and then the rest
 abbrev pub Lines : List ℕ → List Item → List ℕ → Type 0
 Lines bytes [] rest = bytes ≡ rest
-Lines bytes (item ∷ items) rest = (line : List ℕ) × (more : List ℕ) × (bytes ≡ line ++ 10 ∷ more) × IsLine line item × (item ≢ Bad) × Lines more items rest
+Lines bytes (item ∷ items) rest =
+    (line : List ℕ) × (more : List ℕ) × (bytes ≡ line ++ line_feed ∷ more) × IsLine line item × (item ≢ Bad) × Lines more items rest
 
 -- the input, of which these known bytes are unread, ends with nothing more, or with a last line that is bad
 pub data Ends (known : Option (List ℕ)) : List ℕ → List Item → Type 0 where
   whole : IsAtEnd known → Ends known [] []
   cut : (line : List ℕ) → IsOneLine line → 0 < length line → IsAtEnd known → Ends known line (Bad ∷ [])
-  unreadable : (line more : List ℕ) → IsLine line Bad → Ends known (line ++ 10 ∷ more) (Bad ∷ [])
+  unreadable : (line more : List ℕ) → IsLine line Bad → Ends known (line ++ line_feed ∷ more) (Bad ∷ [])
   too_long : (line more : List ℕ) → IsOneLine line → longest_line < length line → Ends known (line ++ more) (Bad ∷ [])

@@ -1,6 +1,7 @@
 -- How requests are spelled, and which are refused for their names: the first reason from the left.
 use Rattle.std.specs.Prelude.{◌≡◌, ℕ, List, [], ◌∷◌, ◌++◌, Option, Some, None, codes}
 use Rattle.std.specs.List.{AllByRecursion, flat_map, slice_get}
+use Rattle.eden_model.specs.Bytes.{space_byte}
 use Rattle.eden_model.specs.declared.errno.Errno.{Errno}
 use Rattle.eden_model.specs.declared.request.Request.{Request}
 use Rattle.eden_model.specs.declared.request.Request.TheVariants as request
@@ -30,6 +31,6 @@ pub record Spells (q : Request) (line : List ℕ) (refusal : Option Errno) : Typ
   pub word : List ℕ
   pub fields : List Field
   pub parts : spelling q ≡ Some (word, fields)
-  pub text : line ≡ word ++ flat_map (λ f. 32 ∷ field_text f) fields
+  pub text : line ≡ word ++ flat_map (λ f. space_byte ∷ field_text f) fields
   pub good : AllByRecursion IsField fields
   pub refused : refusal ≡ slice_get (flat_map refusals fields) 0

@@ -1,8 +1,9 @@
 -- What is known of a text before anything is read into memory.
-use Rattle.std.specs.Prelude.{ℕ, ◌≡◌, ◌≤◌, Bool, ◌||◌, ◌&&◌, List, [], ◌∷◌, ◌++◌, length, Option, Some, None, nat_lt, nat_le, if◌then◌else◌}
+use Rattle.std.specs.Prelude.{ℕ, ◌≡◌, ◌≤◌, Bool, ◌||◌, List, [], ◌∷◌, ◌++◌, length, Option, Some, None, nat_lt, if◌then◌else◌}
 use Rattle.std.specs.List.{AllByRecursion}
 use Rattle.std.specs.Str.{bytes_eq}
 use Rattle.std.specs.Option.{option_or}
+use Rattle.eden_model.specs.Bytes.{dot_byte, space_byte}
 use Rattle.eden_model.specs.Names.{most_name, name_refusal}
 use Rattle.eden_model.specs.Paths.{most_names, most_path}
 use Rattle.eden_model.specs.declared.errno.Errno.{Errno}
@@ -18,7 +19,7 @@ use Rattle.eden_wire.specs.declared.word.Word.{Word}
 use Rattle.eden_wire.specs.declared.word.Sort.{Sort}
 
 abbrev pub is_dots : List ℕ → Bool
-is_dots text = bytes_eq text (46 ∷ []) || bytes_eq text (46 ∷ 46 ∷ [])
+is_dots text = bytes_eq text (dot_byte ∷ []) || bytes_eq text (dot_byte ∷ dot_byte ∷ [])
 
 -- why a component is refused, of which it is known whether it is no name and how long it is
 abbrev pub refusal_by : Bool → ℕ → Option Errno
@@ -67,10 +68,6 @@ pub record ScansPath (text : List ℕ) (refusal : Option Errno) : Type 0 where
   pub spelled : text ≡ path_text path
   pub refused : refusal ≡ field_refusal (of_path path)
 
--- a lower-case hexadecimal digit
-abbrev pub is_lower_digit : ℕ → Bool
-is_lower_digit b = (nat_le 48 b && nat_le b 57) || (nat_le 97 b && nat_le b 102)
-
 -- the text of some bytes
 abbrev pub SpellsData : List ℕ → Type 0
 SpellsData text = (bytes : List ℕ) × AreBytes bytes × (text ≡ hex_text bytes)
@@ -118,5 +115,5 @@ LastIs sort text = ScansFields (sort ∷ []) text None
 -- this field was read
 pub record Takes (taken : Field) (old new : List ℕ) : Type 0 where
   pub good : IsField taken
-  pub whole : old ≡ 32 ∷ (field_text taken ++ new)
+  pub whole : old ≡ space_byte ∷ (field_text taken ++ new)
   pub on : (sorts : List Sort) → ScansFields (sort_of taken ∷ sorts) old None → ScansFields sorts new None

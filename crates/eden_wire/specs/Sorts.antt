@@ -2,6 +2,7 @@
 use Rattle.std.specs.Prelude.{ℕ, ◌≡◌, Bool, List, [], ◌∷◌, Option, Some, None, ⊤}
 use Rattle.std.specs.List.{flat_map}
 use Rattle.std.specs.Option.{option_or}
+use Rattle.eden_model.specs.Bytes.{slash_byte, space_byte}
 use Rattle.eden_model.specs.Names.{name_refusal}
 use Rattle.eden_model.specs.Paths.{path_refusal}
 use Rattle.eden_model.specs.declared.errno.Errno.{Errno}
@@ -38,7 +39,7 @@ field_refusal field = None
 
 -- a name of a path
 abbrev pub component_text : List ℕ → List ℕ
-component_text name = 47 ∷ name_text name
+component_text name = slash_byte ∷ name_text name
 
 abbrev pub path_text : List (List ℕ) → List ℕ
 path_text path = field_text (of_path path)
@@ -57,4 +58,4 @@ IsAfter after = IsField (of_after after)
 
 -- a space before each field
 abbrev pub fields_text : List Field → List ℕ
-fields_text fields = flat_map (λ f. 32 ∷ field_text f) fields
+fields_text fields = flat_map (λ f. space_byte ∷ field_text f) fields

@@ -1,5 +1,6 @@
 ghost use Rattle.std.specs.Prelude.{◌≡◌, ◌≤◌, ◌<◌, ◌++◌, List, [], ◌∷◌, ℕ, length, take, true, MatchOption};
 ghost use Rattle.std.specs.List.{list_all};
+ghost use Rattle.eden_model.specs.Bytes.{percent_sign};
 ghost use Rattle.eden_wire.specs.Names.{is_plain, upper_digit, byte_text};
 
 /// 1 for each byte that stands for itself in a name: a letter, a digit, `.` or `_`. A row has 32 bytes. One look-up
@@ -48,8 +49,8 @@ fn digit(c: u8) -> Option<u8>
 
 /// The byte that `%` and two digits spell, if it doesn't stand for itself.
 fn escaped(high: u8, low: u8) -> Option<u8>
-    ensures { MatchOption result ((b : ℕ) → b < 256 → 37 ∷ high ∷ low ∷ [] ≡ byte_text b → ⊥)
-        (λ b. (37 ∷ high ∷ low ∷ [] ≡ byte_text b) × (b < 256)) }
+    ensures { MatchOption result ((b : ℕ) → b < 256 → percent_sign ∷ high ∷ low ∷ [] ≡ byte_text b → ⊥)
+        (λ b. (percent_sign ∷ high ∷ low ∷ [] ≡ byte_text b) × (b < 256)) }
 {
     let b = 16 * digit(high)? + digit(low)?;
     if is_plain(b) { None } else { Some(b) }

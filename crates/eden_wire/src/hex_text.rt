@@ -3,7 +3,7 @@ ghost use Rattle.std.specs.List.{list_all};
 ghost use Rattle.hex.specs.Hex.{encode_lower};
 ghost use Rattle.eden_wire.specs.Names.{AreBytes};
 ghost use Rattle.eden_wire.specs.Digits.{digits_of};
-ghost use Rattle.eden_wire.specs.Scans.{is_lower_digit};
+ghost use Rattle.eden_model.specs.Bytes.{is_lower_hex_digit};
 
 // Both digits of a byte are computed at once, without a branch, so that LLVM makes vector code of the loops.
 fn digits(byte: u8) -> u16
@@ -48,7 +48,7 @@ pub(crate) fn decode(text: &[u8], bytes: &mut [u8])
 }
 
 fn is_lower_digit(b: u8) -> bool
-    ensures { result ≡ is_lower_digit b }
+    ensures { result ≡ is_lower_hex_digit b }
 {
     matches!(b, b'0'..=b'9' | b'a'..=b'f')
 }
@@ -56,7 +56,7 @@ fn is_lower_digit(b: u8) -> bool
 /// Whether all are lower-case digits.
 #[inline(never)]
 pub(crate) fn are_digits(text: &[u8]) -> bool
-    ensures { result ≡ list_all is_lower_digit text.now }
+    ensures { result ≡ list_all is_lower_hex_digit text.now }
 {
     let mut good = true;
     'digits: for b in text {

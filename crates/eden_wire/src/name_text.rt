@@ -1,12 +1,13 @@
 ghost use Rattle.std.specs.Prelude.{◌≡◌, ◌||◌, ◌==◌, ℕ, List, true, IsTrue, MatchOption, IfOk};
 ghost use Rattle.std.specs.List.{list_all};
+ghost use Rattle.eden_model.specs.Bytes.{nul_byte, slash_byte};
 ghost use Rattle.eden_wire.specs.Names.{is_plain, name_text, AreBytes, IsComponent, SpellsName};
 ghost use Rattle.eden_wire.specs.Scans.{is_dots, refusal_by, ScansName, SpellsNoName, ScansAfter, SpellsAfter};
 ghost use Rattle.eden_wire.specs.Scans.{SpellsNoAfter};
 ghost use Rattle.eden_wire.specs.Sorts.{IsAfter, after_text};
 
 use crate::escape::{first_byte, plain_len};
-use eden_model::{Errno, Name};
+use eden_model::{Errno, MAX_NAME, Name};
 use percent_encoding::percent_decode;
 use std::alloc::{AllocError, Global};
 
@@ -20,7 +21,7 @@ pub(crate) struct ScannedName {
 }
 
 fn is_barred(before: bool, b: u8) -> bool
-    ensures { result ≡ ((before || b == 47) || b == 0) }
+    ensures { result ≡ ((before || b == slash_byte) || b == nul_byte) }
 {
     before || b == b'/' || b == 0
 }
@@ -36,7 +37,7 @@ fn refusal_by(no_name: bool, len: usize) -> Option<Errno>
 {
     if no_name {
         Some(Errno::EINVAL)
-    } else if len > 255 {
+    } else if len > MAX_NAME {
         Some(Errno::ENAMETOOLONG)
     } else {
         None

@@ -1,5 +1,6 @@
 ghost use Rattle.std.specs.Prelude.{◌≡◌, take, true, IsTrue, MatchOption, IfOk};
 ghost use Rattle.std.specs.List.{AllByRecursion, list_all};
+ghost use Rattle.eden_model.specs.Bytes.{slash_byte};
 ghost use Rattle.eden_wire.specs.Names.{is_plain, IsComponent};
 ghost use Rattle.eden_wire.specs.Splits.{BeginsWith, IsFirstPart, IsPart};
 ghost use Rattle.eden_wire.specs.Scans.{too_long_by, ScansPath, SpellsPath, SpellsNoPath};
@@ -8,7 +9,7 @@ ghost use Rattle.eden_wire.specs.Sorts.{path_text};
 use crate::escape::plain_len;
 use crate::name_text::{read_component, scan_component};
 use crate::split::part_len;
-use eden_model::{Errno, Path};
+use eden_model::{Errno, MAX_NAMES, MAX_PATH, Path};
 use std::alloc::{AllocError, Global};
 
 // Most paths have no more names: room for so many is made at once.
@@ -17,7 +18,7 @@ const FEW: usize = 4;
 // How many bytes stand before the first slash, or in all, and whether all of these stand for themselves. A slash
 // doesn't stand for itself, so that most components are looked through once.
 fn component_len(bytes: &[u8]) -> (usize, bool)
-    ensures part { IsFirstPart bytes.now 47 result.0 }
+    ensures part { IsFirstPart bytes.now slash_byte result.0 }
     ensures plain { IsTrue result.1 → list_all is_plain (take result.0 bytes.now) ≡ true }
 {
     let plain = plain_len(bytes);
@@ -33,8 +34,8 @@ fn component_len(bytes: &[u8]) -> (usize, bool)
 // The component behind the slash at the beginning, the text from the next slash, and whether all bytes of the component
 // stand for themselves.
 fn next_component(text: &[u8]) -> (&[u8], &[u8], bool)
-    requires { BeginsWith 47 text.now }
-    ensures part { IsPart 47 text.now result.0.now result.1.now }
+    requires { BeginsWith slash_byte text.now }
+    ensures part { IsPart slash_byte text.now result.0.now result.1.now }
     ensures plain { IsTrue result.2 → list_all is_plain result.0.now ≡ true }
 {
     let inside = &text[1..];
@@ -48,7 +49,7 @@ fn too_long_by(first: Option<Errno>, names: usize, bytes: usize) -> Option<Errno
 {
     match first {
         Some(errno) => Some(errno),
-        None if names > 256 || bytes > 4095 => Some(Errno::ENAMETOOLONG),
+        None if names > MAX_NAMES || bytes > MAX_PATH => Some(Errno::ENAMETOOLONG),
         None => None,
     }
 }
