@@ -1,5 +1,5 @@
 // How an attempt of a pending request comes out.
-ghost use Rattle.std.specs.Prelude.{◌≡◌, ◌≢◌, ℕ, IfSome};
+ghost use Rattle.std.specs.Prelude.{◌≡◌, ◌≢◌, ◌≤◌, ℕ, IfSome, None, length};
 ghost use Rattle.eden_mount.specs.Places.{kept_at, LeadStill, IsKeptFor};
 ghost use Rattle.eden_mount.specs.Replying.{Settles};
 
@@ -40,6 +40,15 @@ fn settle<W: World, T: Attempts<W>>(
     }
 }
 
+/// Nothing is kept any more. It stands apart, since whoever replaces a place clears a kilobyte first, which takes longer
+/// than most looks.
+#[inline(never)]
+fn forget<P: Drop>(place: &mut Option<P>)
+    ensures { place.new ≡ None }
+{
+    *place = None;
+}
+
 /// The same, and what came out leaves no place.
 fn settle_at<W: World, T: Attempts<W>>(
     alloc: Global,
@@ -55,7 +64,9 @@ fn settle_at<W: World, T: Attempts<W>>(
 {
     let settled = settle::<W, T>(alloc, table, request, mark, place);
     if let Settled::Found(_) = &settled {
-        *place = None;
+        if place.is_some() {
+            forget(place);
+        }
     }
     settled
 }
@@ -79,6 +90,25 @@ pub(crate) fn resume<W: World, T: Attempts<W>>(
     if seat < places.len() {
         return settle_at::<W, T>(alloc, table, request, mark, &mut places[seat]);
     }
+    resume_first::<W, T>(alloc, table, request, mark, places, seat)
+}
+
+/// The same at a seat at which no place was ever kept. It stands apart as `forget` does.
+#[inline(never)]
+fn resume_first<W: World, T: Attempts<W>>(
+    alloc: Global,
+    table: &mut T,
+    request: &Request,
+    mark: Option<(Key, Cause)>,
+    places: &mut Vec<Option<T::Place>>,
+    seat: usize,
+) -> Settled
+    requires { length places.old.items ≤ seat }
+    ensures settles { Settles T.table W.honest table.old request.now mark result table.new }
+    ensures places { LeadStill T.leads table.old table.new }
+    ensures kept { IsKeptFor T.leads table.new request.now result (kept_at seat places.new.items) }
+    ensures elsewhere { (i : ℕ) → i ≢ seat → kept_at i places.new.items ≡ kept_at i places.old.items }
+{
     let mut place = None;
     let settled = settle_at::<W, T>(alloc, table, request, mark, &mut place);
     if let Some(place) = place {
