@@ -6,6 +6,7 @@ use Rattle.std.specs.BTreeMap.{is_at}
 use Rattle.std.specs.Int.{w32, w64, to_le_bytes}
 use Rattle.std.specs.List.{flat_map, slice_get}
 use Rattle.std.specs.Map.{lookup}
+use Rattle.eden_model.specs.Bytes.{dot_byte}
 use Rattle.eden_model.specs.declared.kind.Kind.{Kind}
 use Rattle.eden_model.specs.declared.kind.Kind.TheVariants as kinds
 use Rattle.eden_model.specs.Trees.{Name}
@@ -50,13 +51,13 @@ with_rows node size from (e ∷ es) bytes =
     else (if nat_le (length bytes + length (row_text (from + 1) e.0 e.1)) size
     then with_rows node size (from + 1) es (bytes ++ row_text (from + 1) e.0 e.1) else bytes)
 
--- ---- `.` and `..`, a directory itself and the one above it, come before its entries, which a mount alone tells; 46 is the dot
+-- ---- `.` and `..`, a directory itself and the one above it, come before its entries, which a mount alone tells
 
 abbrev pub itself : Entry
-itself = (46 ∷ [], kinds.Dir)
+itself = (dot_byte ∷ [], kinds.Dir)
 
 abbrev pub above : Entry
-above = (46 ∷ 46 ∷ [], kinds.Dir)
+above = (dot_byte ∷ dot_byte ∷ [], kinds.Dir)
 
 -- those of them that come after so many
 abbrev pub dots_after : ℕ → List Entry

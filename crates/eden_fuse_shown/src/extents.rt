@@ -42,7 +42,7 @@ ghost use Rattle.eden_fuse_shown.specs.Waiting.{
   seen_part,
 };
 
-use eden_model::{SharedBytes, change_laws};
+use eden_model::{MAX_FILE, SharedBytes, change_laws};
 use std::alloc::{AllocError, Global};
 use std::collections::BTreeMap;
 use std::marker::Model;
@@ -52,9 +52,6 @@ const MOST_WAITING: u64 = 128 << 20;
 
 /// The most bytes of all extents together once one has other bytes of its file in it: 64 MiB.
 const MOST_BRIDGED: u64 = 64 << 20;
-
-/// The longest file.
-const MOST_FILE: u64 = 1 << 30;
 
 /// What lies between bytes that wait and others: where it begins, and how many bytes it has.
 #[derive(Clone, Copy, Debug, PartialEq, Eq)]
@@ -115,7 +112,7 @@ impl Extent {
         ensures { result ≡ seen_length (Some self.now) size }
     {
         let len = self.len();
-        if len == 0 || self.from > MOST_FILE || len > MOST_FILE - self.from {
+        if len == 0 || self.from > MAX_FILE || len > MAX_FILE - self.from {
             return size;
         }
         size.max(self.from + len)
@@ -347,10 +344,10 @@ fn has_room(all: u64, extent: &Extent, from: u64, bytes: &[u8]) -> bool
     if extent.can_join(from) || extent.len() == 0 || len == 0 {
         return false;
     }
-    if extent.from > MOST_FILE || extent.len() > MOST_FILE - extent.from {
+    if extent.from > MAX_FILE || extent.len() > MAX_FILE - extent.from {
         return false;
     }
-    if from > MOST_FILE || len > MOST_FILE - from {
+    if from > MAX_FILE || len > MAX_FILE - from {
         return false;
     }
     all + extent.gap_at(from).len + len <= MOST_BRIDGED
@@ -463,7 +460,7 @@ impl Extents {
         if len > MOST_WAITING || self.all + len > MOST_WAITING {
             return false;
         }
-        if from > MOST_FILE || from + len > MOST_FILE {
+        if from > MAX_FILE || from + len > MAX_FILE {
             return false;
         }
         match self.extents.get(&node) {

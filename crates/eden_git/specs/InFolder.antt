@@ -4,7 +4,8 @@ use Rattle.eden_model.specs.declared.id.Id.{Id}
 use Rattle.eden_model.specs.declared.fault.Cause.TheVariants as cause
 use Rattle.eden_model.specs.Failures.{one_more}
 use Rattle.eden_plain_files.specs.Folders.{Folder}
-use Rattle.eden_source.specs.Fetching.{Answer, longest_framed}
+use Rattle.eden_object.specs.Frames.{longest_framed}
+use Rattle.eden_source.specs.Fetching.{Answer}
 use Rattle.eden_git.specs.Framing.{IsFramedObject}
 
 -- It stays where it is, each failure is counted once, and whatever its files hold, the bytes of an answer are a framed object.

@@ -1,6 +1,6 @@
 // Objects of packs, through the deltas that they are made of.
 ghost use Rattle.std.specs.Prelude.{◌≡◌, ◌≤◌, length, IfOk, IfErr};
-ghost use Rattle.eden_source.specs.Fetching.{longest_framed};
+ghost use Rattle.eden_object.specs.Frames.{longest_framed};
 ghost use Rattle.eden_pack_format.specs.Causes.{IsReadingCause};
 ghost use Rattle.eden_git.specs.Framing.{IsFramedObject};
 

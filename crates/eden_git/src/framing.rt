@@ -1,20 +1,16 @@
 // The header of a framed object.
-ghost use Rattle.std.specs.Prelude.{◌≡◌, ◌≤◌, ◌^◌, ◌++◌, length, OnOk, IfOk, IfErr};
-ghost use Rattle.eden_object.specs.Frames.{word_text};
-ghost use Rattle.eden_source.specs.Fetching.{longest_framed};
+ghost use Rattle.std.specs.Prelude.{◌≡◌, ◌≤◌, ◌++◌, length, OnOk, IfOk, IfErr};
+ghost use Rattle.eden_object.specs.Frames.{longest_framed, most_body, word_text};
 ghost use Rattle.eden_git.specs.Framing as spec;
 ghost use Rattle.eden_git.specs.Framing.{IsFramedObject};
 ghost use Rattle.eden_pack_format.specs.Causes.{IsReadingCause};
 
 use eden_model::Cause;
-use eden_object::Word;
+use eden_object::{BODY_LIMIT, Word};
 use eden_source::LONGEST_FRAMED;
 use itoa::Buffer;
 use std::alloc::{AllocError, Global};
 use std::str;
-
-/// The most bytes that a body may have.
-pub(crate) const BODY_MOST: usize = 1 << 30;
 
 /// No header is longer.
 const HEADER_MOST: usize = 32;
@@ -49,7 +45,7 @@ pub(crate) fn frame(alloc: Global, word: Word, body: &[u8]) -> Result<Vec<u8>, C
     ensures bounded { IfOk result (λ v. length v.items ≤ longest_framed) }
     ensures causes { IfErr result IsReadingCause }
 {
-    if body.len() > BODY_MOST {
+    if body.len() > BODY_LIMIT {
         return Err(Cause::TooLarge);
     }
     let mut framed = Vec::with_capacity(alloc, body.len() + HEADER_MOST)?;
@@ -63,7 +59,7 @@ pub(crate) fn frame(alloc: Global, word: Word, body: &[u8]) -> Result<Vec<u8>, C
 
 /// What an object's first bytes say of its word and its body's size, within the limit. The number is read leniently.
 pub(crate) fn read_header(front: &[u8]) -> Result<(Word, usize), Cause>
-    ensures short { IfOk result (λ head. head.1 ≤ 2 ^ 30) }
+    ensures short { IfOk result (λ head. head.1 ≤ most_body) }
     ensures causes { IfErr result IsReadingCause }
 {
     let word = WORDS
@@ -71,7 +67,7 @@ pub(crate) fn read_header(front: &[u8]) -> Result<(Word, usize), Cause>
         .find(|word| front.starts_with(text_of(*word)))
         .ok_or(Cause::Device)?;
     let size = read_size(&front[text_of(word).len()..]).ok_or(Cause::Device)?;
-    if size > BODY_MOST {
+    if size > BODY_LIMIT {
         return Err(Cause::TooLarge);
     }
     Ok((word, size))

@@ -2,7 +2,8 @@ ghost use Rattle.std.specs.Prelude.{◌≡◌, ◌≢◌, ◌≤◌, length, Err
 ghost use Rattle.std.specs.Path.{path_buf_bytes};
 ghost use Rattle.eden_model.specs.declared.fault.Cause.TheVariants as cause;
 ghost use Rattle.eden_model.specs.Failures.{one_more};
-ghost use Rattle.eden_source.specs.Fetching.{IsSourceCause, longest_framed};
+ghost use Rattle.eden_object.specs.Frames.{longest_framed};
+ghost use Rattle.eden_source.specs.Fetching.{IsSourceCause};
 ghost use Rattle.eden_git.specs.Framing.{IsFramedObject};
 
 use crate::bases::Bases;

@@ -1,6 +1,6 @@
 // A loose object: one framed object as a zlib stream.
 ghost use Rattle.std.specs.Prelude.{◌≡◌, ◌≤◌, length, IfOk, IfErr};
-ghost use Rattle.eden_source.specs.Fetching.{longest_framed};
+ghost use Rattle.eden_object.specs.Frames.{longest_framed};
 ghost use Rattle.eden_pack_format.specs.Causes.{IsReadingCause};
 ghost use Rattle.eden_git.specs.Framing.{IsFramedObject};
 

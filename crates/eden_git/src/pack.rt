@@ -3,13 +3,12 @@ ghost use Rattle.std.specs.Prelude.{◌≡◌, ◌≤◌, length, IfOk, IfErr};
 ghost use Rattle.eden_pack_format.specs.Causes.{IsReadingCause};
 
 use crate::bases::{Base, Bases};
-use crate::framing::BODY_MOST;
 use crate::index::Index;
 use crate::loose::cause_of;
 use crate::pieces::Pieces;
 use eden_inflate::{Decoder, Refusal};
 use eden_model::{Cause, Id};
-use eden_object::Word;
+use eden_object::{BODY_LIMIT, Word};
 use eden_pack_format::{EntryKind, apply, read_entry_head};
 use std::alloc::Global;
 use std::io::{Read, Seek};
@@ -137,7 +136,7 @@ impl<F: Read + Seek + Drop> Pack<F> {
     {
         let bytes = self.pieces.read_some(alloc, at, HEAD_MOST)?;
         let head = read_entry_head(&bytes).ok_or(Cause::Device)?;
-        if head.size > BODY_MOST as u64 {
+        if head.size > BODY_LIMIT as u64 {
             return Err(Cause::TooLarge);
         }
         let read = bytes.len().saturating_sub(head.stream.len());

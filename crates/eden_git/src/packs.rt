@@ -1,6 +1,6 @@
 // The packs of a directory of objects.
 ghost use Rattle.std.specs.Prelude.{◌≡◌, ◌≤◌, length, true, false, Ok, None, IsErrAnd, IfOk, IfErr, IfSome};
-ghost use Rattle.eden_source.specs.Fetching.{longest_framed};
+ghost use Rattle.eden_object.specs.Frames.{longest_framed};
 ghost use Rattle.eden_pack_format.specs.Causes.{IsReadingCause};
 ghost use Rattle.eden_git.specs.Framing.{IsFramedObject};
 ghost use Rattle.eden_git.specs.Opening.{IsDamage};

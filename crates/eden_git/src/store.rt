@@ -2,7 +2,8 @@
 ghost use Rattle.std.specs.Prelude.{◌≡◌, ◌≤◌, length, false, Ok, Err, IfOk, IfErr};
 ghost use Rattle.std.specs.List.{All};
 ghost use Rattle.eden_model.specs.declared.fault.Cause.TheVariants as cause;
-ghost use Rattle.eden_source.specs.Fetching.{IsSourceCause, longest_framed};
+ghost use Rattle.eden_object.specs.Frames.{longest_framed};
+ghost use Rattle.eden_source.specs.Fetching.{IsSourceCause};
 ghost use Rattle.eden_pack_format.specs.Causes.{IsReadingCause};
 ghost use Rattle.eden_git.specs.Framing.{IsFramedObject};
 

@@ -1,6 +1,7 @@
 //! Looks along a path, by positions and by names.
 ghost use Rattle.std.specs.Prelude.{◌≡◌, ◌≤◌, ◌+◌, drop, length};
 ghost use Rattle.std.specs.Option.{is_some};
+ghost use Rattle.eden_model.specs.Paths.{most_names};
 ghost use Rattle.eden_tree.specs.Directory.{child_of};
 ghost use Rattle.eden_tree.specs.Paths.{stamped_along};
 ghost use Rattle.eden_inode.specs.Tables.{IsLast};
@@ -39,7 +40,7 @@ pub(crate) fn seek<A: Allocator>(
     trail: &mut Trail,
     clock: u64,
 ) -> Seen
-    requires { length trail.old.positions + length path.now ≤ 256 }
+    requires { length trail.old.positions + length path.now ≤ most_names }
     ensures last { IsLast path.now entry.old result }
     ensures stamped { entry.new ≡ stamped_along path.now clock entry.old }
     ensures finds { Finds path.now entry.old result trail.old trail.new }
@@ -80,7 +81,7 @@ pub(crate) fn follow<A: Allocator>(
 ) -> Seen
     requires leads { Leads path.now (drop depth trail.old.positions) entry.old }
     requires known { depth ≤ length trail.old.positions }
-    requires room { depth + length path.now ≤ 256 }
+    requires room { depth + length path.now ≤ most_names }
     ensures last { IsLast path.now entry.old result }
     ensures stamped { entry.new ≡ stamped_along path.now clock entry.old }
     ensures follows { Follows depth path.now entry.old result trail.old trail.new }

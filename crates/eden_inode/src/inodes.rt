@@ -36,14 +36,13 @@ use crate::seen::Seen;
 use crate::trail::Trail;
 use crate::unload::Unloading;
 use eden_coupling::{kept_laws, number_kept_laws, number_save_laws, shown_laws};
-use eden_model::{Fault, Key, Kind, MAX_NAMES, Name, ObjKind, Obstacle, Origin, TreeEntry, World};
+use eden_model::{
+    Fault, Key, Kind, MAX_NAMES, NUMBER_END, Name, ObjKind, Obstacle, Origin, TreeEntry, World,
+};
 use eden_overlay::{Content, Files, FilesFault, Overlay};
 use eden_tree::{Change, Dir, Entry};
 use std::alloc::{Allocator, Global};
 use std::marker::Model;
-
-/// The numbers of inodes are below this one.
-const NUMBER_END: u64 = 1 << 63;
 
 /// The number of the root.
 const ROOT: u64 = 1;

@@ -1,5 +1,6 @@
 //! Positions of a path's names, so that a later look needs no comparison.
 ghost use Rattle.std.specs.Prelude.{◌≡◌, ◌<◌, ◌≤◌, ◌+◌, [], ◌∷◌, ◌++◌, length, min, slice_get, IfSome, IfNone, None};
+ghost use Rattle.eden_model.specs.Paths.{most_names};
 ghost use Rattle.eden_tree.specs.Rows.{find_row};
 ghost use Rattle.eden_inode.specs.Trails.{Pins};
 
@@ -86,7 +87,7 @@ impl Trail {
 
     /// Looks for a name in a directory, and notes its position.
     pub(crate) fn search<A: Allocator>(&mut self, dir: &Dir<A>, name: &Name) -> Option<u32>
-        requires { length self.old.positions < 256 }
+        requires { length self.old.positions < most_names }
         ensures found { IfSome result (λ i. Pins name.now i dir.now.rows) }
         ensures noted { IfSome result (λ i. self.new.positions ≡ self.old.positions ++ i ∷ []) }
         ensures absent { IfNone result (find_row name.now dir.now.rows ≡ None) }

@@ -1,13 +1,15 @@
 ghost use Rattle.std.specs.Prelude.{◌≡◌, ◌≤◌, ◌<◌, ◌+◌, List, Ok, Err, IfOk, OnOk};
-ghost use Rattle.eden_object_writer.specs.Limits.{longest_file, most_levels};
+ghost use Rattle.eden_object_writer.specs.Limits.{most_levels};
 ghost use Rattle.eden_object_writer.specs.Trees.{HasPlainModes, IsTreeOf};
 ghost use Rattle.eden_object_writer.specs.declared.fault.ImportFault.TheVariants as fault;
+ghost use Rattle.eden_model.specs.Limits.{most_file};
 ghost use Rattle.eden_model.specs.declared.tree_entry.TreeEntry.{TreeEntry};
 
 use crate::fault::ImportFault;
 use crate::found::{Found, Kind, entry_name, list};
 use crate::store::Store;
 use crate::tree::framed_tree;
+use eden_model::MAX_FILE;
 use eden_object::{Id, Mode, TreeEntry, encode_blob};
 use eden_plain_files::{Links, read_file};
 use std::alloc::{Alloc, Global};
@@ -18,7 +20,7 @@ use std::rt::Files;
 pub const LEVELS: u32 = 256;
 
 /// The longest file that is imported, in bytes.
-const LONGEST: u64 = 1 << 30;
+const LONGEST: u64 = MAX_FILE;
 
 /// Imports the folder at the path into the store, and gives the id of its tree. Files have the mode 100644 and folders
 /// 40000; folders that come out empty are left out, but for the top, whose tree may be the empty one.
@@ -123,7 +125,7 @@ fn import_file<R: Files + Eprint>(
     path: &PathBuf,
     store: &mut Store<R>,
 ) -> Result<Id, ImportFault>
-    ensures bound { LONGEST ≡ longest_file }
+    ensures bound { LONGEST ≡ most_file }
 {
     let content = read_file(store.files(), alloc, path.as_str(), Links::Refused, LONGEST)?;
     let framed = encode_blob(alloc, content.as_slice())?;

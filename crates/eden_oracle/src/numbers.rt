@@ -10,7 +10,7 @@ ghost use Rattle.eden_oracle.specs.Rows.{tree_of};
 use crate::change::{moved, remove, replace};
 use crate::place::{Place, copied_rows, joined};
 use crate::walk::find;
-use eden_model::{Name, Path, Reply, Request};
+use eden_model::{NUMBER_END, Name, Path, Reply, Request};
 use std::alloc::{AllocError, Global};
 use std::marker::Model;
 
@@ -19,9 +19,6 @@ const ROOT: u64 = 1;
 
 /// The least number of what isn't the root.
 const LEAST: u64 = 2;
-
-/// One past the greatest number.
-const END: u64 = 1 << 63;
 
 /// The inode numbers beside a tree's rows: those that replies gave, by path, and those that are spent.
 #[derive(Drop)]
@@ -189,7 +186,7 @@ impl Numbers {
     {
         match self.given_at(path) {
             Some(own) => own == number,
-            None => number >= LEAST && number < END && !self.is_spent(number),
+            None => number >= LEAST && number < NUMBER_END && !self.is_spent(number),
         }
     }
 
@@ -209,7 +206,7 @@ impl Numbers {
             × IsLeast (numbers_of self.now) n) }
         ensures none { result ≡ None → (m : ℕ) → IsNumber m → is_spent self.now m ≡ true }
     {
-        for number in LEAST.max(self.next)..END {
+        for number in LEAST.max(self.next)..NUMBER_END {
             if !self.is_spent(number) {
                 return Some(number);
             }

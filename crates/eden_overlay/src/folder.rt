@@ -13,7 +13,7 @@ use crate::overlay::STATE_NUMBER;
 use crate::tidy::Removed;
 use crate::unsynced::{Unsynced, lacking, sync_all, to_mark};
 use eden_model::{Obstacle, Outside};
-use eden_overlay_format::Head;
+use eden_overlay_format::{CONTENT_MOST, HEADER_LEN, Head};
 use eden_plain_files::{
     FolderFault, Links, entry_in, read_file, read_front, read_part, remove_file, replace_file,
 };
@@ -24,8 +24,8 @@ use std::marker::Model;
 use std::path::PathBuf;
 use std::{io, rt};
 
-/// The longest file that is read, in bytes: a body of 2^30 bytes and its header.
-pub const LONGEST_FILE: u64 = (1 << 30) + 64;
+/// The longest file that is read, in bytes: the longest content and its header.
+pub const LONGEST_FILE: u64 = (CONTENT_MOST + HEADER_LEN) as u64;
 
 /// Files in a folder, each named by its number in decimal digits. Other names there are passed over.
 ///

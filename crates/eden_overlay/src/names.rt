@@ -4,6 +4,7 @@ ghost use Rattle.std.specs.Prelude.{IfSome, IsOk, OnOk, codes, decimal, length};
 ghost use Rattle.std.specs.Path.{path_buf_bytes, with_separator};
 ghost use Rattle.std.specs.Ordering.{nat_cmp};
 ghost use Rattle.std.specs.List.Sorted.{IsStrictlySortedBy};
+ghost use Rattle.eden_model.specs.Bytes.{slash_byte};
 ghost use Rattle.eden_overlay.specs.InFolder as folder_spec;
 ghost use Rattle.eden_overlay.specs.declared.files.FilesFault.TheVariants as fault;
 
@@ -57,7 +58,7 @@ pub(crate) fn unfinished_path(folder: &PathBuf, number: u64) -> Result<FilePath,
 
 // Whether a name may follow a path at once: it ends in a slash, or is empty.
 fn ends_in_slash(path: &str) -> bool
-    ensures { with_separator path.now ≡ (if result then path.now else path.now ++ 47 ∷ []) }
+    ensures { with_separator path.now ≡ (if result then path.now else path.now ++ slash_byte ∷ []) }
 {
     let bytes = path.as_bytes();
     bytes.is_empty() || bytes[bytes.len() - 1] == b'/'

@@ -22,7 +22,7 @@ ghost use Rattle.eden_overlay.specs.declared.rescan.RescanFault.TheVariants as f
 use crate::fault::GetFault;
 use crate::files::{Files, FilesFault};
 use crate::overlay::{Overlay, ROOT_NUMBER};
-use eden_model::{Id, Kind, Origin, World};
+use eden_model::{Id, Kind, NUMBER_END, Origin, World};
 use eden_overlay_format::{Refusal, StoredEntry};
 use std::alloc::{AllocError, AllocFailed, Global};
 use std::collections::BTreeSet;
@@ -30,9 +30,6 @@ use thiserror::Error;
 
 /// The least number of an entry.
 pub(crate) const LEAST_NUMBER: u64 = 2;
-
-/// One past the greatest number of an entry.
-const NUMBER_END: u64 = 1 << 63;
 
 /// Why a pass over the directories that count gave no next number: the first that it met. No file has changed then.
 #[derive(Clone, Copy, Debug, PartialEq, Eq, Error)]

@@ -1,5 +1,6 @@
 -- Which bytes store the content of a file or a link.
-use Rattle.std.specs.Prelude.{◌≡◌, ◌≤◌, ◌-◌, ◌^◌, ℕ, List, Option, Some, None, Result, Ok, Err, length, take, nat_le, if◌then◌else◌}
+use Rattle.std.specs.Prelude.{◌≡◌, ◌≤◌, ◌-◌, ℕ, List, Option, Some, None, Result, Ok, Err, length, take, nat_le, if◌then◌else◌}
+use Rattle.eden_model.specs.Limits.{most_file}
 use Rattle.eden_overlay_format.specs.declared.header.Head.{Head}
 use Rattle.eden_overlay_format.specs.declared.header.Identifier.TheVariants as identifier
 use Rattle.eden_overlay_format.specs.declared.refusal.Refusal.{Refusal}
@@ -8,7 +9,7 @@ use Rattle.eden_overlay_format.specs.Stored.{head_refusal, body_in}
 
 -- the longest content, in bytes
 abbrev pub content_most : ℕ
-content_most = 2 ^ 30
+content_most = most_file
 
 -- the body is the content
 pub record IsFile (bytes content : List ℕ) : Type 0 where

@@ -10,10 +10,11 @@ ghost use Rattle.eden_overlay_format.specs.declared.header.Identifier.TheVariant
 use crate::header::{HEADER_LEN, Head, Identifier, body_of, check_head, seal, start};
 use crate::refusal::Refusal;
 use crate::spliced::Spliced;
+use eden_model::MAX_FILE;
 use std::alloc::{AllocError, Global};
 
 /// The longest content of a file or a link, in bytes.
-pub const CONTENT_MOST: usize = 1 << 30;
+pub const CONTENT_MOST: usize = MAX_FILE as usize;
 
 /// The stored file of a content of at most `CONTENT_MOST` bytes. The only error is want of memory.
 pub fn encode_file(alloc: Global, content: &[u8]) -> Result<Vec<u8>, AllocError>

@@ -6,14 +6,11 @@ ghost use Rattle.eden_overlay_format.specs.Reading.{entry_number_at, origin_at, 
 
 use crate::refusal::{DecodeFault, Refusal};
 use crate::stored_entry::StoredEntry;
-use eden_model::{Id, Kind, Name, Origin};
+use eden_model::{Id, Kind, NUMBER_END, Name, Origin};
 use std::alloc::Global;
 
 /// The least number of an inode below the root.
 const NUMBER_LEAST: u64 = 2;
-
-/// The numbers of inodes are below this one.
-const NUMBER_END: u64 = 1 << 63;
 
 /// The next byte.
 fn byte_of(bytes: &[u8]) -> Result<(u8, &[u8]), Refusal>

@@ -12,7 +12,7 @@ use crate::fields::{array_of, u64_of};
 use crate::header::{Identifier, body_of, seal, start};
 use crate::refusal::Refusal;
 use crate::writing::put_id;
-use eden_model::Id;
+use eden_model::{Id, NUMBER_END};
 use std::alloc::{AllocError, Global};
 
 /// What the next mount needs to know: the tree that the overlay stands on, and the next inode number, from 2 to 2^63.
@@ -29,7 +29,7 @@ const STATE_LEN: usize = 28;
 const NEXT_LEAST: u64 = 2;
 
 /// The highest next number: that of a mount that has no number left.
-const NEXT_MOST: u64 = 1 << 63;
+const NEXT_MOST: u64 = NUMBER_END;
 
 /// The stored file of a state. The only error is want of memory.
 pub fn encode_state(alloc: Global, state: State) -> Result<Vec<u8>, AllocError>

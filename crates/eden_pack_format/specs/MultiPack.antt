@@ -1,5 +1,6 @@
 -- A multi-pack index (gitformat-pack(5), "multi-pack-index (MIDX) files have the following format").
 use Rattle.std.specs.Prelude.{◌≡◌, ◌≢◌, ◌≤◌, ◌+◌, ◌*◌, ℕ, List, [], ◌∷◌, ◌++◌, length, take, drop, slice_index, All}
+use Rattle.eden_model.specs.Bytes.{nul_byte}
 use Rattle.eden_pack_format.specs.Indexes.{number_at, long_at}
 
 -- MIDX, version 1, and ids that are SHA-1
@@ -29,5 +30,5 @@ pub record IsChunk (table name : List ℕ) (begin end : ℕ) : Type 0 where
 
 -- the names of packs, each before a NUL: the first, and those after it
 pub record IsSplit (names first others : List ℕ) : Type 0 where
-  pub is : names ≡ first ++ 0 ∷ others
+  pub is : names ≡ first ++ nul_byte ∷ others
   pub first_ends : All (λ byte. byte ≢ 0) first

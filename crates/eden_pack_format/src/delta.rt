@@ -1,31 +1,33 @@
 // Deltas (gitformat-pack(5), "Deltified representation"): the sizes of the base and of the target, and instructions.
-ghost use Rattle.std.specs.Prelude.{◌≡◌, ◌≢◌, ◌≤◌, ◌<◌, ◌^◌, List, ℕ};
+ghost use Rattle.std.specs.Prelude.{◌≡◌, ◌≢◌, ◌≤◌, ◌<◌, List, ℕ};
 ghost use Rattle.std.specs.Prelude.{length, None, Some, Err, MatchOption, IfSome, IfOk, IfErr};
 ghost use Rattle.eden_model.specs.declared.fault.Cause.TheVariants as cause;
+ghost use Rattle.eden_object.specs.Frames.{most_body};
 ghost use Rattle.eden_pack_format.specs.Deltas as spec;
 ghost use Rattle.eden_pack_format.specs.Deltas.{IsDelta};
 ghost use Rattle.eden_pack_format.specs.Causes.{IsReadingCause};
 
 use crate::number::{read_length, read_offset, read_size};
 use eden_model::Cause;
+use eden_object::BODY_LIMIT;
 use std::alloc::Global;
 
 /// The most bytes that a body may have.
-const BODY_MOST: u64 = 1 << 30;
+const BODY_MOST: u64 = BODY_LIMIT as u64;
 
 /// What a copy's size of 0 stands for.
 const WHOLE_COPY: usize = 65536;
 
 /// What the delta makes of the base.
 ///
-/// `Device`, where it is no delta of it; `TooLarge`, where it says that it makes more than 2^30 bytes; `Memory`, where
-/// they find none.
+/// `Device`, where it is no delta of it; `TooLarge`, where it says that it makes more bytes than a body may have;
+/// `Memory`, where they find none.
 pub fn apply(alloc: Global, base: &[u8], delta: &[u8]) -> Result<Vec<u8>, Cause>
     ensures made { IfOk result (λ target. IsDelta base.now delta.now target.items) }
-    ensures short { IfOk result (λ target. length target.items ≤ 2 ^ 30) }
+    ensures short { IfOk result (λ target. length target.items ≤ most_body) }
     ensures bad { result ≡ Err cause.Device → (target : List ℕ) → IsDelta base.now delta.now target → ⊥ }
     ensures large { result ≡ Err cause.TooLarge
-        → (target : List ℕ) → IsDelta base.now delta.now target → 2 ^ 30 < length target }
+        → (target : List ℕ) → IsDelta base.now delta.now target → most_body < length target }
     ensures causes { IfErr result IsReadingCause }
 {
     let Some((base_size, behind)) = read_size(delta) else {

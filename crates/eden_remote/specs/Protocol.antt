@@ -3,6 +3,7 @@ use Rattle.std.specs.Prelude.{◌≡◌, ◌≢◌, ◌<◌, ◌⊎◌, ℕ, Lis
 use Rattle.std.specs.List.{AllByRecursion}
 use Rattle.std.specs.Str.Parse.{AllDigits}
 use Rattle.std.specs.Io.KnownBytes.{Appends}
+use Rattle.eden_model.specs.Bytes.{digit_zero, line_feed}
 use Rattle.eden_model.specs.declared.fault.Cause.TheVariants as cause
 use Rattle.eden_source.specs.Fetching.{Answer}
 
@@ -12,15 +13,15 @@ Known = Option (List ℕ)
 
 -- no line feed among the bytes
 abbrev pub IsOneLine : List ℕ → Type 0
-IsOneLine bytes = AllByRecursion (λ b. b ≢ 10) bytes
+IsOneLine bytes = AllByRecursion (λ b. b ≢ line_feed) bytes
 
 -- a client asks for the object whose id has these digits
 abbrev pub get_line : List ℕ → List ℕ
-get_line digits = codes "get " ++ digits ++ 10 ∷ []
+get_line digits = codes "get " ++ digits ++ line_feed ∷ []
 
 -- the first line of an answer that gives so many bytes
 abbrev pub object_line : List ℕ → List ℕ
-object_line digits = codes "object " ++ digits ++ 10 ∷ []
+object_line digits = codes "object " ++ digits ++ line_feed ∷ []
 
 abbrev pub missing_line : List ℕ
 missing_line = codes "missing\n"
@@ -42,7 +43,7 @@ answer_text (Err e) = fault_line
 pub record IsNumber (text : List ℕ) : Type 0 where
   pub some : 0 < length text
   pub digits : AllDigits 10 text
-  pub first : slice_index text 0 ≡ 48 → length text ≡ 1
+  pub first : slice_index text 0 ≡ digit_zero → length text ≡ 1
 
 -- the first line of an answer, without its line feed
 abbrev pub IsFirstLine : List ℕ → Type 0

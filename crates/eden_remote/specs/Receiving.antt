@@ -4,7 +4,8 @@ use Rattle.std.specs.Str.Parse.{digits_value}
 use Rattle.std.specs.Io.KnownBytes.{Consumes, IsAtEnd}
 use Rattle.std.specs.declared.alloc.Global.{Global}
 use Rattle.std.specs.declared.vec.Vec.{Vec}
-use Rattle.eden_source.specs.Fetching.{longest_framed}
+use Rattle.eden_model.specs.Bytes.{line_feed}
+use Rattle.eden_object.specs.Frames.{longest_framed}
 use Rattle.eden_remote.specs.Protocol.{Known, IsOneLine, IsNumber, IsFirstLine, object_line, object_text, missing_line, fault_line}
 use Rattle.eden_remote.specs.declared.refusal.Refusal.{Refusal}
 use Rattle.eden_remote.specs.declared.refusal.Refusal.TheVariants as refusal
@@ -20,7 +21,7 @@ longest_first_line = 32
 
 -- whatever comes after these bytes, no answer begins with them
 abbrev pub IsNoAnswer : List ℕ → Type 0
-IsNoAnswer read = (line more tail : List ℕ) → IsFirstLine line → length line < longest_first_line → read ++ more ≢ line ++ 10 ∷ tail
+IsNoAnswer read = (line more tail : List ℕ) → IsFirstLine line → length line < longest_first_line → read ++ more ≢ line ++ line_feed ∷ tail
 
 -- a beginning of a first line, or of an object's answer: more is still to come
 abbrev pub IsCut : List ℕ → Type 0

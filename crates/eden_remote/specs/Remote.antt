@@ -8,7 +8,8 @@ use Rattle.eden_model.specs.declared.id.Id.{Id}
 use Rattle.eden_model.specs.declared.fault.Cause.TheVariants as cause
 use Rattle.eden_model.specs.Failures.{one_more}
 use Rattle.eden_sockets.specs.declared.address.Address.{Address}
-use Rattle.eden_source.specs.Fetching.{Answer, longest_framed}
+use Rattle.eden_object.specs.Frames.{longest_framed}
+use Rattle.eden_source.specs.Fetching.{Answer}
 use Rattle.eden_remote.specs.Protocol.{Known, get_line}
 use Rattle.eden_remote.specs.Receiving.{Hears}
 use Rattle.eden_remote.specs.declared.refusal.Refusal.{Refusal}

@@ -2,7 +2,7 @@
 ghost use Rattle.std.specs.Prelude.{◌≡◌, ◌+◌, min, MatchOption};
 ghost use Rattle.std.specs.Str.Parse.{digits_value};
 ghost use Rattle.eden_remote.specs.Protocol.{IsNumber};
-ghost use Rattle.eden_source.specs.Fetching.{longest_framed};
+ghost use Rattle.eden_object.specs.Frames.{longest_framed};
 
 use eden_source::LONGEST_FRAMED;
 

@@ -1,6 +1,7 @@
 ghost use Rattle.std.specs.Prelude.{◌≡◌, ◌≤◌, ◌⊎◌, length, IfOk, IfErr};
 ghost use Rattle.std.specs.Option.{is_some};
-ghost use Rattle.eden_source.specs.Fetching.{answer_of, IsSourceCause, longest_framed};
+ghost use Rattle.eden_object.specs.Frames.{longest_framed};
+ghost use Rattle.eden_source.specs.Fetching.{answer_of, IsSourceCause};
 ghost use Rattle.std.specs.Io.Buffered.{reader_inner, reader_remaining};
 ghost use Rattle.eden_remote.specs.Remote.{AsksAndHears, keeps_connection};
 

@@ -1,5 +1,5 @@
 -- What a source is asked, and what it answers.
-use Rattle.std.specs.Prelude.{◌≡◌, ◌+◌, ◌^◌, ℕ, List, [], ◌∷◌, Result}
+use Rattle.std.specs.Prelude.{◌≡◌, ℕ, List, [], ◌∷◌, Result}
 use Rattle.std.specs.Result.{result_map_both}
 use Rattle.std.specs.declared.alloc.Global.{Global}
 use Rattle.std.specs.declared.vec.Vec.{Vec}
@@ -13,10 +13,6 @@ Answer = Result (List ℕ) Cause
 
 abbrev pub answer_of : Result (Vec ℕ Global) Cause → Answer
 answer_of r = result_map_both (λ v. v.items) (λ e. e) r
-
--- bytes of the longest framed object: a body of 2^30 bytes and its header
-abbrev pub longest_framed : ℕ
-longest_framed = 2 ^ 30 + 16
 
 -- why a source gives no bytes
 abbrev pub IsSourceCause : Cause → Type 0

@@ -9,7 +9,8 @@ use Rattle.eden_model.specs.declared.id.Id.{Id}
 use Rattle.eden_model.specs.declared.fault.Cause.{Cause}
 use Rattle.eden_model.specs.declared.fault.Cause.TheVariants as cause
 use Rattle.eden_model.specs.Failures.{one_more}
-use Rattle.eden_source.specs.Fetching.{Answer, longest_framed}
+use Rattle.eden_object.specs.Frames.{longest_framed}
+use Rattle.eden_source.specs.Fetching.{Answer}
 
 -- the object's file: `xx/` and 38 hexadecimal digits below the folder
 abbrev pub object_path : List ℕ → Id → List ℕ

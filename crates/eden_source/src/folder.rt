@@ -1,19 +1,21 @@
 ghost use Rattle.std.specs.Prelude.{◌≡◌, ◌≢◌, ◌≤◌, Err, IfOk, IfErr, length};
 ghost use Rattle.std.specs.Path.{path_buf_bytes};
 ghost use Rattle.eden_model.specs.Failures.{one_more};
-ghost use Rattle.eden_source.specs.Fetching.{IsSourceCause, longest_framed};
+ghost use Rattle.eden_object.specs.Frames.{longest_framed};
+ghost use Rattle.eden_source.specs.Fetching.{IsSourceCause};
 ghost use Rattle.eden_source.specs.InFolder.{object_path, of_folder};
 
 use crate::source::Source;
 use eden_model::{Cause, Id, Outside};
+use eden_object::FRAMED_LIMIT;
 use eden_plain_files::{FolderFault, Links, read_file};
 use std::alloc::{AllocError, Global};
 use std::marker::Model;
 use std::path::PathBuf;
 use std::rt::Files;
 
-/// The longest framed object, in bytes: a body of 2^30 bytes and its header.
-pub const LONGEST_FRAMED: u64 = (1 << 30) + 16;
+/// The longest framed object, in bytes: the longest body and its header.
+pub const LONGEST_FRAMED: u64 = FRAMED_LIMIT as u64;
 
 /// Framed, uncompressed objects as files: below the folder the file `xx/` and 38 lower-case hexadecimal digits, the
 /// digits of the id. A link there stands for the file that it leads to.

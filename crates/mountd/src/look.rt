@@ -3,7 +3,7 @@ use eden_fuse_format::{StatFsOut, Time};
 use eden_fuse_life::Look;
 use eden_fuse_meaning::Owner;
 use eden_fuse_shown::{Manner, Times};
-use eden_model::Outside;
+use eden_model::{MAX_NAME, Outside};
 use eden_overlay::Files;
 use eden_overlay_format::Identifier;
 use itoa::Buffer;
@@ -23,7 +23,7 @@ const SPACE: StatFsOut = StatFsOut {
     files: 1 << 30,
     ffree: 1 << 29,
     bsize: 4_096,
-    namelen: 255,
+    namelen: MAX_NAME as u32,
     frsize: 4_096,
 };
 

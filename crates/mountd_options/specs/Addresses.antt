@@ -2,6 +2,7 @@
 use Rattle.std.specs.Prelude.{◌≡◌, ◌==◌, Bool, true, false, Option, Some, None, codes, string_bytes}
 use Rattle.std.specs.List.{list_any}
 use Rattle.clap.specs.Words.{Text}
+use Rattle.eden_model.specs.Bytes.{slash_byte}
 use Rattle.eden_sockets.specs.Addresses.{IsSocketPath}
 use Rattle.eden_sockets.specs.declared.address.Address.{Address}
 use Rattle.eden_sockets.specs.declared.address.Address.TheVariants as at
@@ -15,7 +16,7 @@ address_name Remote = codes "remote"
 
 -- a slash stands in the text
 abbrev pub has_slash : Text → Bool
-has_slash text = list_any (λ b. b == 47) text
+has_slash text = list_any (λ b. b == slash_byte) text
 
 -- the text is the path of this socket
 abbrev pub IsPath : Text → Address → Type 0
