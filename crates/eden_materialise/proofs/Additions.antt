@@ -33,10 +33,11 @@ use Rattle.eden_coupling.proofs.CallerLemmas.{place_at, next_rises, entry_storab
 use Rattle.eden_materialise.specs.declared.new_entry.NewEntry.{NewEntry}
 use Rattle.eden_materialise.specs.declared.new_entry.NewEntry.TheVariants as new
 use Rattle.eden_materialise.specs.Filing.{kind_as, node_as, with_own, own_row, IsShort, LacksEntry, MayAdd, FilesEntry, RefusedBy}
-use Rattle.eden_materialise.specs.Puts.{AtDirectory}
+use Rattle.eden_materialise.specs.Listings.{PutsEntry, StoresEntry}
 use Rattle.eden_materialise.proofs.Numbered.{files_numbered}
 use Rattle.eden_materialise.proofs.Renumbered.{files_puts, files_same, one_directory}
-use Rattle.eden_materialise.proofs.Filing.{files_stored, files_strays, files_table, files_marks, files_stay, files_kept, files_unseen, files_shown}
+use Rattle.eden_materialise.proofs.Outcomes.{puts_ok, stores_ok}
+use Rattle.eden_materialise.proofs.Filing.{files_ok, files_stored, files_strays, files_table, files_marks, files_stay, files_kept, files_unseen, files_shown}
 
 pub nothing_storable : AreStorable []
 unfolding IsStrictlySortedBy
@@ -197,8 +198,11 @@ module _ (T : Type 0) (stored : T → Stored) (failures : T → ℕ) (honest : T
     may_stand : (B : Stored) → (honest → B ≡ M) → MayStand honest R B t.root (t.next + 1) p n (Some w)
     may_stand = may_add honest R F t.root p n t.next e may_before
 
-    pub adds_stored : honest → AtDirectory p t.root (λ y d. OnOk answer (Above (with_entries M y.number (listing_of (changed d n (Some w)))) t.root p G))
-    adds_stored h = files_stored honest p n w F M t.root (failures t.files) G z now answer was_done h
+    pub adds_ok : OnOk answer (PutsEntry p n (Some w) t.root z)
+    adds_ok = puts_ok answer p n (Some w) t.root z (files_ok honest p n w F M t.root (failures t.files) G z now answer was_done)
+
+    pub adds_stored : honest → OnOk answer (StoresEntry p n (Some w) M t.root G)
+    adds_stored h = stores_ok answer p n (Some w) M t.root G (files_stored honest p n w F M t.root (failures t.files) G z now answer was_done h)
 
     pub adds_strays : honest → OnErr answer (RefusedBy F M t.root p G)
     adds_strays h = files_strays honest p n w F M t.root (failures t.files) G z now answer was_done h

@@ -1,5 +1,5 @@
 -- A content that is stored for a file: what that keeps, and what is shown then.
-use Rattle.std.proofs.Common.{◌≡◌, ◌≢◌, ◌≤◌, ℕ, Bool, true, false, if◌then◌else◌, MatchBool, List, [], ◌∷◌, ◌++◌, length, Option, Some, None, IsSome, IfSome, Result, Ok, Err, OnOk, OnErr, IfErr, inl}
+use Rattle.std.proofs.Common.{◌≡◌, ◌≢◌, ◌≤◌, ℕ, Bool, true, false, MatchBool, List, [], ◌∷◌, ◌++◌, length, Option, Some, None, IsSome, IfSome, Result, Ok, Err, OnOk, OnErr, IfErr, inl}
 use Rattle.std.proofs.Common.{inr, refl, sym, ap, ◌∙◌, subst}
 use Rattle.eden_model.specs.declared.fault.Fault.{Fault}
 use Rattle.eden_model.specs.declared.kind.Kind.{Kind}
@@ -13,11 +13,11 @@ use Rattle.eden_overlay_format.specs.Content.{content_most}
 use Rattle.eden_overlay_format.specs.Directory.{AreStorable, IsStorable, is_own}
 use Rattle.eden_overlay_format.specs.Values.{content_in}
 use Rattle.eden_overlay.specs.Files.{Stored}
-use Rattle.eden_overlay.specs.Held.{HoldsContent, with_content, with_entries}
+use Rattle.eden_overlay.specs.Held.{HoldsContent, with_content}
 use Rattle.eden_overlay.specs.Soundness.{HoldsKind, AreSound}
 use Rattle.eden_overlay.proofs.CallerLemmas.{moved, contents_held}
 use Rattle.eden_tree.specs.Directory.{Row, child_of}
-use Rattle.eden_coupling.specs.Chains.{NoneMarked, StaysLoaded, chained, Above}
+use Rattle.eden_coupling.specs.Chains.{NoneMarked, StaysLoaded}
 use Rattle.eden_coupling.specs.Changing.{changed}
 use Rattle.eden_coupling.specs.Filing.{leaf, HasFile}
 use Rattle.eden_coupling.specs.Kept.{IsTable, IsKept}
@@ -30,8 +30,7 @@ use Rattle.eden_coupling.proofs.CallerLemmas.{place_at, entry_storable, loose_so
 use Rattle.eden_materialise.specs.Faults.{IsStoreFault}
 use Rattle.eden_materialise.specs.Filing.{not_filed, RefusedBy}
 use Rattle.eden_materialise.specs.Fills.{MayFill, FillsFile}
-use Rattle.eden_materialise.specs.Listings.{IsHeldFor}
-use Rattle.eden_materialise.specs.Puts.{AtDirectory}
+use Rattle.eden_materialise.specs.Listings.{IsHeldFor, PutsEntry, StoresEntry}
 use Rattle.eden_materialise.proofs.Filing.{files_ok, files_stored, files_err, files_strays, files_fault, files_counted, files_table, files_marks, files_stay, files_kept, files_unseen, files_shown}
 use Rattle.eden_materialise.proofs.Reforms.{each_can}
 
@@ -98,20 +97,17 @@ module _ (honest : Type 0) (R : Repository) (p : Path) (n : Name) (w : Row) (con
     abbrev Fills : Result (Unit {0}) Fault → Type 0
     Fills answer = FillsFile honest p n w F M x old G z now answer
 
-    pub fills_ok : (answer : Result (Unit {0}) Fault) → Fills answer → AtDirectory p x (λ y d. OnOk answer (z ≡ (if is_own w.origin then x else chained p (changed d n (Some (owned w))) x)))
-    fills_ok (Err e) c y d at h = tt
-    fills_ok (Ok u) (inl (own, c)) y d at h = c.root ∙ ap (λ (b : Bool). if b then x else chained p (changed d n (Some (owned w))) x) (sym own)
-    fills_ok (Ok u) (inr (other, c)) y d at h =
-        files_ok honest p n (owned w) F M x old G z now (Ok u) c y d at h ∙ ap (λ (b : Bool). if b then x else chained p (changed d n (Some (owned w))) x) (sym other)
+    pub fills_ok : (answer : Result (Unit {0}) Fault) → Fills answer → OnOk answer (MatchBool (is_own w.origin) (z ≡ x) (PutsEntry p n (Some (owned w)) x z))
+    fills_ok (Err e) c = tt
+    fills_ok (Ok u) (inl (own, c)) = subst (λ (b : Bool). MatchBool b (z ≡ x) (PutsEntry p n (Some (owned w)) x z)) (sym own) c.root
+    fills_ok (Ok u) (inr (other, c)) =
+        subst (λ (b : Bool). MatchBool b (z ≡ x) (PutsEntry p n (Some (owned w)) x z)) (sym other) (files_ok honest p n (owned w) F M x old G z now (Ok u) c)
 
-    pub fills_stored : (answer : Result (Unit {0}) Fault) → Fills answer → honest
-        → AtDirectory p x (λ y d. OnOk answer (MatchBool (is_own w.origin) (G ≡ M) (Above (with_entries M y.number (listing_of (changed d n (Some (owned w))))) x p G)))
-    fills_stored (Err e) c hon y d at h = tt
-    fills_stored (Ok u) (inl (own, c)) hon y d at h =
-        subst (λ (b : Bool). MatchBool b (G ≡ M) (Above (with_entries M y.number (listing_of (changed d n (Some (owned w))))) x p G)) (sym own) (c.ok hon)
-    fills_stored (Ok u) (inr (other, c)) hon y d at h =
-        subst (λ (b : Bool). MatchBool b (G ≡ M) (Above (with_entries M y.number (listing_of (changed d n (Some (owned w))))) x p G)) (sym other)
-        (files_stored honest p n (owned w) F M x old G z now (Ok u) c hon y d at h)
+    pub fills_stored : (answer : Result (Unit {0}) Fault) → Fills answer → honest → OnOk answer (MatchBool (is_own w.origin) (G ≡ M) (StoresEntry p n (Some (owned w)) M x G))
+    fills_stored (Err e) c hon = tt
+    fills_stored (Ok u) (inl (own, c)) hon = subst (λ (b : Bool). MatchBool b (G ≡ M) (StoresEntry p n (Some (owned w)) M x G)) (sym own) (c.ok hon)
+    fills_stored (Ok u) (inr (other, c)) hon =
+        subst (λ (b : Bool). MatchBool b (G ≡ M) (StoresEntry p n (Some (owned w)) M x G)) (sym other) (files_stored honest p n (owned w) F M x old G z now (Ok u) c hon)
 
     pub fills_err : (answer : Result (Unit {0}) Fault) → Fills answer → OnErr answer (z ≡ x)
     fills_err (Ok u) c = tt

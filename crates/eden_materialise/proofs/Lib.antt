@@ -1,4 +1,5 @@
 mod Steps
+mod Outcomes
 mod Putting
 mod Swapped
 mod Order

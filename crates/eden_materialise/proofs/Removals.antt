@@ -49,13 +49,13 @@ clear_removed honest R F x p n held G h up (Some k) is =
 
 module _ (honest : Type 0) (R : Repository) (p : Path) (n : Name) (F : Stored) (x : Row) (old : ℕ) (G : Stored) (z : Row) (new : ℕ) (next : ℕ) (table : IsTable x next)
     (may : MayStand honest R F x next p n None) where
-  pub removes : (answer : Result (Unit {0}) Fault) → RemovesEntry honest p n F x old G z new answer → AtDirectory p x (λ y d. OnOk answer (Removes honest p n F x y d old G new))
-  removes (Ok u) c y d at h = record {
+  pub removes : (answer : Result (Unit {0}) Fault) → RemovesEntry honest p n F x old G z new answer → OnOk answer (AtDirectory p x (λ y d. Removes honest p n F x y d old G new))
+  removes (Ok u) c = λ y d at h. record {
     between = c.between;
     stored = λ hon. c.changes.stored hon y d at h;
     clears = clears_from honest c.between c.between old c.count G new (own_number (find_row n d.rows)) (λ hon. refl) c.changes.counted (c.clears y d at h);
   }
-  removes (Err e) c y d at h = tt
+  removes (Err e) c = tt
 
   pub removes_strays : (answer : Result (Unit {0}) Fault) → RemovesEntry honest p n F x old G z new answer → honest → OnErr answer (Refused F x p G)
   removes_strays (Ok u) c h = tt

@@ -17,6 +17,7 @@ use Rattle.eden_coupling.specs.Materialising.{marked_listing, Chain, owned_along
 use Rattle.eden_inode.specs.declared.listing.Listed.{Listed}
 use Rattle.eden_materialise.specs.Faults.{IsStoreFault}
 use Rattle.eden_inode.specs.Listed.{listed_as}
+use Rattle.eden_materialise.specs.Puts.{AtDirectory}
 
 -- what is stored of the lowest directory: those entries, or where none are told, all of a directory that isn't its own
 abbrev pub lowest_of : Option Listed → Row → Directory → Option (List StoredEntry)
@@ -35,6 +36,14 @@ IsListedIfSaved F y d = IsOwnAndSaved y d → HoldsEntries F y.number (listing_o
 abbrev pub with_lowest : Stored → ℕ → Option (List StoredEntry) → Stored
 with_lowest F k None = F
 with_lowest F k (Some entries) = with_entries F k entries
+
+-- F became G: the directory at a path was stored so, and then those above it that have to be
+abbrev pub StoresChain : Path → Option Listed → Stored → Row → Stored → Type 0
+StoresChain p lowest F x G = AtDirectory p x (λ y d. Above (with_lowest F y.number (lowest_of lowest y d)) x p G)
+
+-- one of these stores was refused
+abbrev pub StopsChain : Path → Option Listed → Stored → Row → Stored → Type 0
+StopsChain p lowest F x G = AtDirectory p x (λ y d. (G ≡ F) ⊎ Unfinished (with_lowest F y.number (lowest_of lowest y d)) x p G)
 
 -- F became G: the directory x was stored with its entry n, the directory z, its own, unless both were their own already
 pub data StoresAgain (F : Stored) (x : Row) (d : Directory) (n : Name) (z : Row) (G : Stored) : Type 0 where

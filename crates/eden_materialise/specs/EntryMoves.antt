@@ -52,6 +52,11 @@ pub record IsMoved (honest : Type 0) (p : Path) (n : Name) (q : Path) (m : Name)
   pub root : z ≡ moved_in x p n q m may
   pub files : Clears honest (files_moved x p n q m may F) old G new (own_number (find_row m may.target.rows))
 
+-- it didn't, for a store was refused: all is as before, or the first directory is stored without the entry, and marked unsaved
+abbrev pub StaysOrLeaves : (honest : Type 0) {x : Row} {p : Path} {n : Name} {q : Path} {m : Name} → MayMove x p n q m → Stored → Stored → Row → Type 0
+StaysOrLeaves honest {x} {p} {n} {q} {m} may F G z = ((z ≡ x) × (honest → G ≡ F))
+    ⊎ ((z ≡ marked_source x p n q m may) × (honest → G ≡ files_left x p n q m may F))
+
 -- it didn't: all is as before; or of two directories the first is stored without the entry, and marked unsaved
 abbrev pub IsUnmoved : Type 0 → Path → Name → Path → Name → Stored → Row → Stored → Row → Type 0
 IsUnmoved honest p n q m F x G z = ((z ≡ x) × (honest → G ≡ F))

@@ -1,5 +1,5 @@
 -- An entry that comes to have its own file: the file is stored first, and then the entry stands there.
-use Rattle.std.specs.Prelude.{◌≡◌, ◌≤◌, ◌<◌, ◌⊎◌, ℕ, true, [], if◌then◌else◌, length, Some, None, Result, Err}
+use Rattle.std.specs.Prelude.{◌≡◌, ◌≤◌, ◌<◌, ◌+◌, ◌^◌, ◌-◌, ◌⊎◌, ℕ, min, true, [], if◌then◌else◌, length, Some, None, Result, Err}
 use Rattle.eden_model.specs.declared.fault.Fault.{Fault}
 use Rattle.eden_model.specs.declared.fault.Fault.TheVariants as fault
 use Rattle.eden_model.specs.declared.kind.Kind.{Kind}
@@ -12,6 +12,7 @@ use Rattle.eden_model.specs.Names.{name_refusal}
 use Rattle.eden_model.specs.Repository.{Repository}
 use Rattle.eden_model.specs.Trees.{Name, Path}
 use Rattle.eden_overlay_format.specs.Content.{content_most}
+use Rattle.eden_overlay.specs.declared.files.Files.{Ghosts as Files}
 use Rattle.eden_overlay.specs.Files.{Stored}
 use Rattle.eden_overlay.specs.Held.{with_content, with_entries}
 use Rattle.eden_tree.specs.Directory.{Row, Directory, unloaded, child_of}
@@ -21,10 +22,11 @@ use Rattle.eden_coupling.specs.Chains.{Refused}
 use Rattle.eden_coupling.specs.Changing.{HasRoom}
 use Rattle.eden_coupling.specs.Kept.{IsTable, IsKept}
 use Rattle.eden_coupling.specs.NumberKept.{KeepsNumbers}
+use Rattle.eden_inode.specs.Tables.{Table}
 use Rattle.eden_materialise.specs.declared.new_entry.NewEntry.{NewEntry}
 use Rattle.eden_materialise.specs.declared.new_entry.NewEntry.TheVariants as new
 use Rattle.eden_materialise.specs.Faults.{IsStoreFault}
-use Rattle.eden_materialise.specs.Listings.{ChangesEntry}
+use Rattle.eden_materialise.specs.Listings.{StoresEntry, ChangesEntry}
 
 -- ---- a new entry
 
@@ -87,6 +89,22 @@ pub data FilesEntry (honest : Type 0) (p : Path) (n : Name) (w : Row) (F M : Sto
 -- the files where one of these stores was refused
 abbrev pub RefusedBy : Stored → Stored → Row → Path → Stored → Type 0
 RefusedBy F M x p G = (G ≡ F) ⊎ Refused M x p G
+
+-- ---- a new entry of a table, of the next number
+
+module _ {W F : Type 0} (f : Files F W) (p : Path) where
+  -- its own file was stored, and then the directory at the path with it, and those above that have to be
+  abbrev pub StoresNew : Name → NewEntry → Table F → Table F → Type 0
+  StoresNew n e s t = StoresEntry p n (Some (own_row s.next e)) (with_own (f.stored s.files) s.next e) s.root (f.stored t.files)
+
+  -- one of these stores was refused
+  abbrev pub RefusesNew : NewEntry → Table F → Table F → Type 0
+  RefusesNew e s t = RefusedBy (f.stored s.files) (with_own (f.stored s.files) s.next e) s.root p (f.stored t.files)
+
+-- the number was given, or none was
+abbrev pub MayGiveNumber : {F : Type 0} → Table F → Table F → Type 0
+MayGiveNumber s t = ((t.next ≡ s.next) × (t.changes ≡ s.changes))
+    ⊎ ((t.next ≡ s.next + 1) × (t.changes ≡ min (s.changes + 1) (2 ^ 64 - 1)))
 
 -- why no entry was added
 abbrev pub IsAddFault : ℕ → ℕ → ℕ → Fault → Type 0

@@ -11,3 +11,4 @@ pub mod Filing
 pub mod Fills
 pub mod Saving
 pub mod Renumbering
+pub mod Showing

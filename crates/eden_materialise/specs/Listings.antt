@@ -21,6 +21,14 @@ pub record IsHeldFor (honest : Type 0) (R : Repository) (F : Stored) (x : Row) (
   pub kept : honest → IsKept R F x next
   pub may : MayStand honest R F x next p n o
 
+-- x became z in memory: the directory at a path has this under that name and is saved, and it and all above it are the mount's own
+abbrev pub PutsEntry : Path → Name → Option Row → Row → Row → Type 0
+PutsEntry p n o x z = AtDirectory p x (λ y d. z ≡ chained p (changed d n o) x)
+
+-- F became G: the directory at a path was stored with this under that name, and then those above it that have to be
+abbrev pub StoresEntry : Path → Name → Option Row → Stored → Row → Stored → Type 0
+StoresEntry p n o F x G = AtDirectory p x (λ y d. Above (with_entries F y.number (listing_of (changed d n o))) x p G)
+
 -- the chain of the directory at a path is stored with this under that name, and then so in memory; after an error memory is
 -- as it was, and what was stored is strays
 pub record ChangesEntry (honest : Type 0) (p : Path) (n : Name) (o : Option Row) (F : Stored) (x : Row) (old : ℕ)

@@ -1,21 +1,19 @@
 //! An entry added to the table of a mount.
 
-ghost use Rattle.std.specs.Prelude.{◌≡◌, ◌⊎◌, ◌<◌, ◌^◌, ◌∷◌, [], ◌++◌, ◌+◌, min, true, Err, Some, length, MatchBool};
+ghost use Rattle.std.specs.Prelude.{◌≡◌, ◌<◌, ◌^◌, ◌∷◌, [], ◌++◌, ◌+◌, min, true, Err, Some, length, MatchBool};
 ghost use Rattle.std.specs.Prelude.{OnOk, OnErr};
 ghost use Rattle.eden_model.specs.declared.fault.Fault.TheVariants as fault;
 ghost use Rattle.eden_model.specs.Limits.{number_end};
-ghost use Rattle.eden_model.specs.Trees.{graft};
-ghost use Rattle.eden_overlay.specs.Held.{with_entries};
-ghost use Rattle.eden_coupling.specs.Chains.{chained, Above};
-ghost use Rattle.eden_coupling.specs.Changing.{HasRoom, changed};
+ghost use Rattle.eden_coupling.specs.Changing.{HasRoom};
 ghost use Rattle.eden_coupling.specs.Filing.{leaf};
-ghost use Rattle.eden_coupling.specs.Listings.{listing_of};
-ghost use Rattle.eden_inode.specs.Tables.{shows, ShowsSameNumbers};
+ghost use Rattle.eden_inode.specs.Tables.{ShowsSameNumbers};
 ghost use Rattle.eden_materialise.specs.Renumbering.{PutsNumber};
 ghost use Rattle.eden_materialise.specs.Atomic.{IsAtomic};
 ghost use Rattle.eden_materialise.specs.Filing.{node_as, with_own, own_row, IsShort, LacksEntry, MayAdd, FilesEntry};
-ghost use Rattle.eden_materialise.specs.Filing.{RefusedBy, IsAddFault};
+ghost use Rattle.eden_materialise.specs.Filing.{StoresNew, RefusesNew, MayGiveNumber, IsAddFault};
+ghost use Rattle.eden_materialise.specs.Listings.{PutsEntry};
 ghost use Rattle.eden_materialise.specs.Puts.{AtDirectory};
+ghost use Rattle.eden_materialise.specs.Showing.{ShowsAt};
 
 use crate::entry_change::put_in;
 use crate::fault::told;
@@ -95,35 +93,26 @@ pub fn add_entry<A: Allocator + Clone, W: World, F: Files<W>>(
 ) -> Result<(), Fault>
     requires lacks { LacksEntry inodes.old.root path.now name.now }
     requires short { IsShort new }
-    ensures ok { AtDirectory path.now inodes.old.root
-        (λ y d. OnOk result (inodes.new.root ≡ chained path.now
-        (changed d name.now (Some (own_row inodes.old.next new.entry))) inodes.old.root)) }
+    ensures ok { OnOk result (PutsEntry path.now name.now (Some (own_row inodes.old.next new.entry))
+        inodes.old.root inodes.new.root) }
     ensures stored { W.honest
-        → AtDirectory path.now inodes.old.root
-        (λ y d. OnOk result (Above
-        (with_entries (with_own (F.stored inodes.old.files) inodes.old.next new.entry) y.number
-        (listing_of (changed d name.now (Some (own_row inodes.old.next new.entry))))) inodes.old.root path.now
-        (F.stored inodes.new.files))) }
+        → OnOk result (StoresNew F.Files path.now name.now new.entry inodes.old inodes.new) }
     ensures atomic { IsAtomic W.World F.Files (IsAddFault inodes.old.next) inodes.old inodes.new result }
     ensures strays { W.honest
-        → OnErr result (RefusedBy (F.stored inodes.old.files)
-        (with_own (F.stored inodes.old.files) inodes.old.next new.entry) inodes.old.root path.now
-        (F.stored inodes.new.files)) }
+        → OnErr result (RefusesNew F.Files path.now new.entry inodes.old inodes.new) }
     ensures numbers { inodes.old.next ≡ number_end
         → AtDirectory path.now inodes.old.root (λ y d. HasRoom d name.now → result ≡ Err fault.Numbers) }
     ensures unused { result ≡ Err fault.Numbers → inodes.new ≡ inodes.old }
     ensures counted { OnOk result (F.failures inodes.new.files ≡ F.failures inodes.old.files) }
     ensures shown { W.honest
-        → OnOk result (shows W.World F.Files inodes.new ≡ graft (path.now ++ name.now ∷ []) (leaf (node_as new.entry))
-        (shows W.World F.Files inodes.old)) }
+        → OnOk result (ShowsAt W.World F.Files (path.now ++ name.now ∷ []) (leaf (node_as new.entry))
+        inodes.old inodes.new) }
     ensures renumbers { W.honest
         → OnOk result (PutsNumber F.Files (path.now ++ name.now ∷ []) (Some inodes.old.next) inodes.old inodes.new) }
     ensures unnumbered { W.honest → OnErr result (ShowsSameNumbers F.Files inodes.old inodes.new) }
     ensures next { OnOk result (inodes.new.next ≡ inodes.old.next + 1) }
     ensures changes { OnOk result (inodes.new.changes ≡ min (inodes.old.changes + 1) u64.MAX) }
-    ensures given { OnErr result
-        (((inodes.new.next ≡ inodes.old.next) × (inodes.new.changes ≡ inodes.old.changes))
-        ⊎ ((inodes.new.next ≡ inodes.old.next + 1) × (inodes.new.changes ≡ min (inodes.old.changes + 1) u64.MAX))) }
+    ensures given { OnErr result (MayGiveNumber inodes.old inodes.new) }
 {
     inodes.holds();
     if !has_room(inodes, path, name) {

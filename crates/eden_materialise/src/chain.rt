@@ -13,7 +13,8 @@ ghost use Rattle.eden_coupling.specs.Chains.{IsLoadedAt, IsAboveOther, Above, Un
 ghost use Rattle.eden_coupling.specs.Laws.{owned};
 ghost use Rattle.eden_coupling.specs.Materialising.{marked_listing, Chain, IsChain, kept_mark, owned_along};
 ghost use Rattle.eden_inode.specs.Listed.{DiffersAt};
-ghost use Rattle.eden_materialise.specs.Chains.{lowest_of, with_lowest, IsOwnAndSaved, StoresAgain, StaySound, IsHeld};
+ghost use Rattle.eden_materialise.specs.Chains.{lowest_of, with_lowest, IsOwnAndSaved, StoresChain, StopsChain};
+ghost use Rattle.eden_materialise.specs.Chains.{StoresAgain, StaySound, IsHeld};
 ghost use Rattle.eden_materialise.specs.Puts.{AtDirectory};
 
 use eden_inode::{Listed, save, save_changed};
@@ -191,16 +192,9 @@ pub(crate) fn store_chain<A: Allocator, W: World, F: Files<W>>(
         → IfSome differing (λ n. AtDirectory path.now root.now
         (λ y d. IfSome (lowest_of lowest y d) (DiffersAt n.now (F.stored overlay.old) y.number))) }
     ensures ok { W.honest
-        → AtDirectory path.now root.now
-        (λ y d. OnOk result (Above
-        (with_lowest (F.stored overlay.old) y.number (lowest_of lowest.entry y d)) root.now path.now
-        (F.stored overlay.new))) }
+        → OnOk result (StoresChain path.now lowest.entry (F.stored overlay.old) root.now (F.stored overlay.new)) }
     ensures err { W.honest
-        → AtDirectory path.now root.now
-        (λ y d. OnErr result
-        ((F.stored overlay.new ≡ F.stored overlay.old)
-        ⊎ Unfinished (with_lowest (F.stored overlay.old) y.number (lowest_of lowest.entry y d)) root.now path.now
-        (F.stored overlay.new))) }
+        → OnErr result (StopsChain path.now lowest.entry (F.stored overlay.old) root.now (F.stored overlay.new)) }
     ensures counted { Counted (result ≡ Err files.Device) (F.failures overlay.old) (F.failures overlay.new) }
 {
     store_lowest(alloc, root, overlay, path, lowest, differing)?;

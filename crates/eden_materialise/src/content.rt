@@ -1,25 +1,18 @@
 //! A content stored for a file in the table of a mount.
 
-ghost use Rattle.std.specs.Prelude.{◌≡◌, ◌≤◌, ◌∷◌, [], ◌++◌, false, if◌then◌else◌, Some, MatchBool, length, OnOk};
-ghost use Rattle.std.specs.Prelude.{OnErr};
-ghost use Rattle.eden_model.specs.Shown.{node_from};
-ghost use Rattle.eden_model.specs.Trees.{graft};
+ghost use Rattle.std.specs.Prelude.{◌≡◌, ◌≤◌, length, OnOk, OnErr};
 ghost use Rattle.eden_overlay_format.specs.Content.{content_most};
 ghost use Rattle.eden_overlay_format.specs.Directory.{is_own};
-ghost use Rattle.eden_overlay.specs.Held.{with_content, with_entries};
+ghost use Rattle.eden_overlay.specs.Held.{with_content};
 ghost use Rattle.eden_tree.specs.Directory.{Row};
-ghost use Rattle.eden_coupling.specs.Chains.{chained, Above};
-ghost use Rattle.eden_coupling.specs.Changing.{changed};
-ghost use Rattle.eden_coupling.specs.Filing.{leaf, HasFile};
+ghost use Rattle.eden_coupling.specs.Filing.{HasFile};
 ghost use Rattle.eden_coupling.specs.Laws.{owned};
-ghost use Rattle.eden_coupling.specs.Listings.{listing_of};
-ghost use Rattle.eden_inode.specs.Tables.{shows, ShowsSameNumbers};
+ghost use Rattle.eden_inode.specs.Tables.{ShowsSameNumbers};
 ghost use Rattle.eden_inode.specs.Trails.{KeepsNames};
 ghost use Rattle.eden_materialise.specs.Atomic.{IsAtomic};
 ghost use Rattle.eden_materialise.specs.Faults.{IsStoreFault};
-ghost use Rattle.eden_materialise.specs.Filing.{RefusedBy};
 ghost use Rattle.eden_materialise.specs.Fills.{MayFill, FillsFile};
-ghost use Rattle.eden_materialise.specs.Puts.{AtDirectory};
+ghost use Rattle.eden_materialise.specs.Fills.{OwnsFile, StoresContent, RefusesContent, ShowsContent};
 
 use crate::chain::is_own;
 use crate::entry_change::put_in;
@@ -140,27 +133,15 @@ pub fn store_content<A: Allocator + Clone, W: World, F: Files<W>>(
 ) -> Result<(), Fault>
     requires there { (w : Row) × HasFile inodes.old.root path.now name.now w }
     requires short { length content ≤ content_most }
-    ensures ok { (w : Row) → HasFile inodes.old.root path.now name.now w
-        → AtDirectory path.now inodes.old.root
-        (λ y d. OnOk result (inodes.new.root ≡
-        (if is_own w.origin then inodes.old.root else chained path.now
-        (changed d name.now (Some (owned w))) inodes.old.root))) }
-    ensures stored { W.honest → (w : Row) → HasFile inodes.old.root path.now name.now w
-        → AtDirectory path.now inodes.old.root
-        (λ y d. OnOk result (MatchBool (is_own w.origin)
-        (F.stored inodes.new.files ≡ with_content (F.stored inodes.old.files) w.number content.entry)
-        (Above (with_entries (with_content (F.stored inodes.old.files) w.number content.entry) y.number
-        (listing_of (changed d name.now (Some (owned w))))) inodes.old.root path.now (F.stored inodes.new.files)))) }
+    ensures ok { OnOk result (OwnsFile path.now name.now inodes.old.root inodes.new.root) }
+    ensures stored { W.honest
+        → OnOk result (StoresContent F.Files path.now name.now content.entry inodes.old inodes.new) }
     ensures atomic { IsAtomic W.World F.Files IsStoreFault inodes.old inodes.new result }
-    ensures strays { W.honest → (w : Row) → HasFile inodes.old.root path.now name.now w
-        → OnErr result (RefusedBy (F.stored inodes.old.files)
-        (with_content (F.stored inodes.old.files) w.number content.entry) inodes.old.root path.now
-        (F.stored inodes.new.files)) }
+    ensures strays { W.honest
+        → OnErr result (RefusesContent F.Files path.now name.now content.entry inodes.old inodes.new) }
     ensures counted { OnOk result (F.failures inodes.new.files ≡ F.failures inodes.old.files) }
-    ensures shown { W.honest → (w : Row) → HasFile inodes.old.root path.now name.now w
-        → OnOk result (shows W.World F.Files inodes.new ≡ graft (path.now ++ name.now ∷ [])
-        (leaf (node_from w.kind (Some content.entry) false))
-        (shows W.World F.Files inodes.old)) }
+    ensures shown { W.honest
+        → OnOk result (ShowsContent W.World F.Files path.now name.now content.entry inodes.old inodes.new) }
     ensures numbers { W.honest → ShowsSameNumbers F.Files inodes.old inodes.new }
     ensures names { KeepsNames inodes.old.root inodes.new.root }
     ensures changes { inodes.new.changes ≡ inodes.old.changes }

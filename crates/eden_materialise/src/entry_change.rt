@@ -2,19 +2,14 @@
 
 ghost use Rattle.std.specs.Prelude.{◌≡◌, ◌∷◌, [], ◌++◌, ◌+◌, min, Err, Some, None, OnOk, OnErr};
 ghost use Rattle.eden_model.specs.Failures.{Counted};
-ghost use Rattle.eden_model.specs.Trees.{graft};
-ghost use Rattle.eden_overlay.specs.Held.{with_entries};
 ghost use Rattle.eden_overlay.specs.declared.files.FilesFault.TheVariants as files;
-ghost use Rattle.eden_coupling.specs.Chains.{chained, Above, Refused};
-ghost use Rattle.eden_coupling.specs.Changing.{changed};
-ghost use Rattle.eden_coupling.specs.Listings.{listing_of};
+ghost use Rattle.eden_coupling.specs.Chains.{Refused};
 ghost use Rattle.eden_coupling.specs.ShownLaws.{shown_from};
 ghost use Rattle.eden_coupling.specs.Standing.{MayStand};
-ghost use Rattle.eden_inode.specs.Tables.{shows};
 ghost use Rattle.eden_materialise.specs.Atomic.{IsAtomic};
 ghost use Rattle.eden_materialise.specs.Faults.{IsStoreFault};
-ghost use Rattle.eden_materialise.specs.Listings.{IsHeldFor, ChangesEntry};
-ghost use Rattle.eden_materialise.specs.Puts.{AtDirectory};
+ghost use Rattle.eden_materialise.specs.Listings.{IsHeldFor, PutsEntry, StoresEntry, ChangesEntry};
+ghost use Rattle.eden_materialise.specs.Showing.{ShowsAt};
 
 use crate::chain::{differing, mark_own, store_chain};
 use crate::fault::told;
@@ -34,13 +29,9 @@ pub(crate) fn take_out<A: Allocator, W: World, F: Files<W>>(
     name: &Name,
 ) -> Result<(), FilesFault>
     requires held { IsHeldFor W.honest W.repository (F.stored overlay.old) root.old path.now name.now None }
-    ensures ok { AtDirectory path.now root.old
-        (λ y d. OnOk result (root.new ≡ chained path.now (changed d name.now None) root.old)) }
+    ensures ok { OnOk result (PutsEntry path.now name.now None root.old root.new) }
     ensures stored { W.honest
-        → AtDirectory path.now root.old
-        (λ y d. OnOk result (Above
-        (with_entries (F.stored overlay.old) y.number (listing_of (changed d name.now None))) root.old path.now
-        (F.stored overlay.new))) }
+        → OnOk result (StoresEntry path.now name.now None (F.stored overlay.old) root.old (F.stored overlay.new)) }
     ensures err { OnErr result (root.new ≡ root.old) }
     ensures strays { W.honest → OnErr result (Refused (F.stored overlay.old) root.old path.now (F.stored overlay.new)) }
     ensures counted { Counted (result ≡ Err files.Device) (F.failures overlay.old) (F.failures overlay.new) }
@@ -70,13 +61,10 @@ pub(crate) fn put_in<A: Allocator, W: World, F: Files<W>>(
     entry: Entry<A>,
 ) -> Result<(), FilesFault>
     requires held { IsHeldFor W.honest W.repository (F.stored overlay.old) root.old path.now name.now (Some entry) }
-    ensures ok { AtDirectory path.now root.old
-        (λ y d. OnOk result (root.new ≡ chained path.now (changed d name.now (Some entry)) root.old)) }
+    ensures ok { OnOk result (PutsEntry path.now name.now (Some entry) root.old root.new) }
     ensures stored { W.honest
-        → AtDirectory path.now root.old
-        (λ y d. OnOk result (Above
-        (with_entries (F.stored overlay.old) y.number (listing_of (changed d name.now (Some entry)))) root.old path.now
-        (F.stored overlay.new))) }
+        → OnOk result (StoresEntry path.now name.now (Some entry)
+        (F.stored overlay.old) root.old (F.stored overlay.new)) }
     ensures err { OnErr result (root.new ≡ root.old) }
     ensures strays { W.honest → OnErr result (Refused (F.stored overlay.old) root.old path.now (F.stored overlay.new)) }
     ensures counted { Counted (result ≡ Err files.Device) (F.failures overlay.old) (F.failures overlay.new) }
@@ -153,21 +141,16 @@ pub fn change_entry<A: Allocator + Clone, W: World, F: Files<W>>(
 ) -> Result<(), Fault>
     requires may { MayStand W.honest W.repository
         (F.stored inodes.old.files) inodes.old.root inodes.old.next path.now name.now entry }
-    ensures ok { AtDirectory path.now inodes.old.root
-        (λ y d. OnOk result (inodes.new.root ≡ chained path.now (changed d name.now entry) inodes.old.root)) }
-    ensures stored { W.honest
-        → AtDirectory path.now inodes.old.root
-        (λ y d. OnOk result (Above
-        (with_entries (F.stored inodes.old.files) y.number
-        (listing_of (changed d name.now entry))) inodes.old.root path.now (F.stored inodes.new.files))) }
+    ensures ok { OnOk result (PutsEntry path.now name.now entry inodes.old.root inodes.new.root) }
+    ensures stored { W.honest → OnOk result (StoresEntry path.now name.now entry
+        (F.stored inodes.old.files) inodes.old.root (F.stored inodes.new.files)) }
     ensures atomic { IsAtomic W.World F.Files IsStoreFault inodes.old inodes.new result }
     ensures strays { W.honest
         → OnErr result (Refused (F.stored inodes.old.files) inodes.old.root path.now (F.stored inodes.new.files)) }
     ensures counted { OnOk result (F.failures inodes.new.files ≡ F.failures inodes.old.files) }
     ensures shown { W.honest
-        → OnOk result (shows W.World F.Files inodes.new ≡ graft (path.now ++ name.now ∷ [])
-        (shown_from W.repository (F.stored inodes.new.files) entry)
-        (shows W.World F.Files inodes.old)) }
+        → OnOk result (ShowsAt W.World F.Files (path.now ++ name.now ∷ [])
+        (shown_from W.repository (F.stored inodes.new.files) entry) inodes.old inodes.new) }
     ensures changes { inodes.new.changes ≡ min (inodes.old.changes + 1) u64.MAX }
     ensures next { inodes.new.next ≡ inodes.old.next }
 {

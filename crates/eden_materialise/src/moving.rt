@@ -1,6 +1,6 @@
 //! An entry moved from one directory to another: both are stored, and then memory is so.
 
-ghost use Rattle.std.specs.Prelude.{◌≡◌, ◌≢◌, ◌⊎◌, Err, Some, None, if◌then◌else◌, IsSome, IfOk, IfSome};
+ghost use Rattle.std.specs.Prelude.{◌≡◌, ◌≢◌, Err, Some, None, if◌then◌else◌, IsSome, IfOk, IfSome};
 ghost use Rattle.std.specs.Prelude.{OnOk, OnErr};
 ghost use Rattle.eden_model.specs.Failures.{Counted};
 ghost use Rattle.eden_model.specs.Named.{AreRising};
@@ -12,9 +12,10 @@ ghost use Rattle.eden_tree.specs.Rows.{find_row};
 ghost use Rattle.eden_tree.specs.Paths.{row_at};
 ghost use Rattle.eden_coupling.specs.Listings.{listing_of};
 ghost use Rattle.eden_coupling.specs.Chains.{IsLoadedAt};
-ghost use Rattle.eden_coupling.specs.Changing.{MayMove, changed, moved_in, marked_source, files_left, files_moved};
+ghost use Rattle.eden_coupling.specs.Changing.{MayMove, changed, moved_in, files_left, files_moved};
 ghost use Rattle.eden_inode.specs.Listed.{DiffersAt};
 ghost use Rattle.eden_materialise.specs.Chains.{IsListedIfSaved};
+ghost use Rattle.eden_materialise.specs.EntryMoves.{StaysOrLeaves};
 ghost use Rattle.eden_materialise.specs.Moves.{left_by, both_by};
 ghost use Rattle.eden_materialise.specs.Puts.{AtDirectory};
 
@@ -166,10 +167,7 @@ pub(crate) fn move_between<A: Allocator, W: World, F: Files<W>>(
         → OnOk result (F.stored overlay.new ≡ files_moved root.old from.now name.now to.now new_name.now m
         (F.stored overlay.old)) }
     ensures err { (m : MayMove root.old from.now name.now to.now new_name.now)
-        → OnErr result (((root.new ≡ root.old) × (W.honest → F.stored overlay.new ≡ F.stored overlay.old))
-        ⊎ ((root.new ≡ marked_source root.old from.now name.now to.now new_name.now m)
-        × (W.honest → F.stored overlay.new ≡ files_left root.old from.now name.now to.now new_name.now m
-        (F.stored overlay.old)))) }
+        → OnErr result (StaysOrLeaves W.honest m (F.stored overlay.old) (F.stored overlay.new) root.new) }
     ensures counted { Counted (result ≡ Err files.Device) (F.failures overlay.old) (F.failures overlay.new) }
 {
     let copy = copy_at(root, from, name);

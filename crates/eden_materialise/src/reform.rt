@@ -1,20 +1,15 @@
 //! A file of another kind in the table of a mount.
 
-ghost use Rattle.std.specs.Prelude.{◌≡◌, ◌≢◌, ◌∷◌, [], ◌++◌, false, Some, None, OnOk};
+ghost use Rattle.std.specs.Prelude.{◌≡◌, ◌≢◌, Some, OnOk};
 ghost use Rattle.eden_model.specs.declared.kind.Kind.TheVariants as kinds;
-ghost use Rattle.eden_model.specs.Shown.{node_from};
-ghost use Rattle.eden_model.specs.Trees.{graft};
 ghost use Rattle.eden_tree.specs.Directory.{Row};
-ghost use Rattle.eden_coupling.specs.Chains.{chained};
-ghost use Rattle.eden_coupling.specs.Changing.{changed};
-ghost use Rattle.eden_coupling.specs.Filing.{leaf, content_shown, HasFile};
-ghost use Rattle.eden_inode.specs.Tables.{shows, ShowsSameNumbers};
+ghost use Rattle.eden_coupling.specs.Filing.{HasFile};
+ghost use Rattle.eden_inode.specs.Tables.{ShowsSameNumbers};
 ghost use Rattle.eden_inode.specs.Trails.{KeepsNames};
 ghost use Rattle.eden_materialise.specs.Atomic.{IsAtomic};
 ghost use Rattle.eden_materialise.specs.Faults.{IsStoreFault};
 ghost use Rattle.eden_materialise.specs.Listings.{ChangesEntry};
-ghost use Rattle.eden_materialise.specs.Puts.{AtDirectory};
-ghost use Rattle.eden_materialise.specs.Reforms.{of_kind, IsHeldFile};
+ghost use Rattle.eden_materialise.specs.Reforms.{of_kind, IsHeldFile, PutsKind, ShowsKind};
 
 use crate::entry_change::put_in;
 use crate::fault::told;
@@ -91,16 +86,11 @@ pub fn set_kind<A: Allocator + Clone, W: World, F: Files<W>>(
 ) -> Result<(), Fault>
     requires there { (w : Row) × HasFile inodes.old.root path.now name.now w }
     requires file { kind ≢ kinds.Dir }
-    ensures ok { (w : Row) → HasFile inodes.old.root path.now name.now w
-        → AtDirectory path.now inodes.old.root
-        (λ y d. OnOk result (inodes.new.root ≡ chained path.now
-        (changed d name.now (Some (of_kind kind w))) inodes.old.root)) }
+    ensures ok { OnOk result (PutsKind path.now name.now kind inodes.old.root inodes.new.root) }
     ensures atomic { IsAtomic W.World F.Files IsStoreFault inodes.old inodes.new result }
     ensures counted { OnOk result (F.failures inodes.new.files ≡ F.failures inodes.old.files) }
-    ensures shown { W.honest → (w : Row) → HasFile inodes.old.root path.now name.now w
-        → OnOk result (shows W.World F.Files inodes.new ≡ graft (path.now ++ name.now ∷ [])
-        (leaf (node_from kind (content_shown W.repository (F.stored inodes.old.files) w) false))
-        (shows W.World F.Files inodes.old)) }
+    ensures shown { W.honest
+        → OnOk result (ShowsKind W.World F.Files path.now name.now kind inodes.old inodes.new) }
     ensures numbers { W.honest → ShowsSameNumbers F.Files inodes.old inodes.new }
     ensures names { KeepsNames inodes.old.root inodes.new.root }
     ensures changes { inodes.new.changes ≡ inodes.old.changes }

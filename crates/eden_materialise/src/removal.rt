@@ -1,16 +1,14 @@
 //! An entry removed from the table of a mount.
 
 ghost use Rattle.std.specs.Prelude.{◌≡◌, ◌≤◌, ◌∷◌, [], ◌++◌, ◌+◌, min, None, OnOk, OnErr};
-ghost use Rattle.eden_model.specs.Trees.{graft};
-ghost use Rattle.eden_coupling.specs.Chains.{chained, Refused};
-ghost use Rattle.eden_coupling.specs.Changing.{changed};
-ghost use Rattle.eden_inode.specs.Tables.{shows, ShowsSameNumbers};
+ghost use Rattle.eden_coupling.specs.Chains.{Refused};
+ghost use Rattle.eden_inode.specs.Tables.{ShowsSameNumbers};
 ghost use Rattle.eden_materialise.specs.Renumbering.{TakesNumbers};
 ghost use Rattle.eden_materialise.specs.Atomic.{IsAtomic};
 ghost use Rattle.eden_materialise.specs.Faults.{IsStoreFault};
-ghost use Rattle.eden_materialise.specs.Listings.{IsHeldFor};
-ghost use Rattle.eden_materialise.specs.Puts.{AtDirectory};
-ghost use Rattle.eden_materialise.specs.Removals.{HasEntry, Removes, RemovesEntry};
+ghost use Rattle.eden_materialise.specs.Listings.{IsHeldFor, PutsEntry};
+ghost use Rattle.eden_materialise.specs.Removals.{HasEntry, RemovesStored, RemovesEntry};
+ghost use Rattle.eden_materialise.specs.Showing.{ShowsAt};
 
 use crate::entry_change::take_out;
 use crate::entry_move::{remove_replaced, spot_at};
@@ -65,18 +63,14 @@ pub fn remove_entry<A: Allocator + Clone, W: World, F: Files<W>>(
     name: &Name,
 ) -> Result<(), Fault>
     requires there { HasEntry inodes.old.root path.now name.now }
-    ensures ok { AtDirectory path.now inodes.old.root
-        (λ y d. OnOk result (inodes.new.root ≡ chained path.now (changed d name.now None) inodes.old.root)) }
-    ensures removed { AtDirectory path.now inodes.old.root
-        (λ y d. OnOk result (Removes W.honest path.now name.now (F.stored inodes.old.files) inodes.old.root y d
-        (F.failures inodes.old.files) (F.stored inodes.new.files) (F.failures inodes.new.files))) }
+    ensures ok { OnOk result (PutsEntry path.now name.now None inodes.old.root inodes.new.root) }
+    ensures removed { OnOk result (RemovesStored F.Files W.honest path.now name.now inodes.old inodes.new) }
     ensures atomic { IsAtomic W.World F.Files IsStoreFault inodes.old inodes.new result }
     ensures strays { W.honest
         → OnErr result (Refused (F.stored inodes.old.files) inodes.old.root path.now (F.stored inodes.new.files)) }
     ensures counted { OnOk result (F.failures inodes.old.files ≤ F.failures inodes.new.files) }
     ensures shown { W.honest
-        → OnOk result (shows W.World F.Files inodes.new ≡ graft (path.now ++ name.now ∷ []) (λ below. None)
-        (shows W.World F.Files inodes.old)) }
+        → OnOk result (ShowsAt W.World F.Files (path.now ++ name.now ∷ []) (λ below. None) inodes.old inodes.new) }
     ensures renumbers { W.honest
         → OnOk result (TakesNumbers F.Files (path.now ++ name.now ∷ []) inodes.old inodes.new) }
     ensures unnumbered { W.honest → OnErr result (ShowsSameNumbers F.Files inodes.old inodes.new) }

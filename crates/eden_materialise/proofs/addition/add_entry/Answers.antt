@@ -1,7 +1,7 @@
 use Rattle.std.proofs.Common.{ap, rules}
 use Rattle.eden_inode.specs.Tables.{Table}
 use Rattle.eden_coupling.specs.Shown.{shown_in}
-use Rattle.eden_materialise.proofs.Additions.{adds_may, adds_table, adds_kept, adds_numbered, adds_stored, adds_strays, adds_shown, adds_unseen, adds_marks, adds_stay, adds_puts, adds_same}
+use Rattle.eden_materialise.proofs.Additions.{adds_may, adds_table, adds_kept, adds_numbered, adds_ok, adds_stored, adds_strays, adds_shown, adds_unseen, adds_marks, adds_stay, adds_puts, adds_same}
 use Rattle.eden_materialise.proofs.addition.add_entry.Goals as goal
 
 pub returns-then-not-has_room-clause-numbers : goal.returns-then-not-has_room-clause-numbers
@@ -37,6 +37,14 @@ change-requires-clause-numbers g c h files root answer does =
     c.in-Some.number c.in-Some.ensures.some.1 c.in-Some.ensures.some.0 l c.holds.ensures.table (λ h. (c.holds.ensures.kept h, c.holds.ensures.numbers h))
     (c.if-not-has_room.ensures l.row l.directory l.at l.holds) c.as_slice.ensures.named c.requires.short c.holds-in-Some.ensures.table (g.F.Files.stored files) root
     (g.F.Files.failures files) answer does h
+
+pub returns-in-Some-clause-ok : goal.returns-in-Some-clause-ok
+returns-in-Some-clause-ok g c =
+    let l = c.requires.lacks in
+    adds_ok g.row.F.Denot g.F.Files.stored g.F.Files.failures g.W.World.honest g.W.World.repository c.args.path.now c.args.name.now c.args.new c.args.inodes.now c.give_number.new.self
+    c.in-Some.number c.in-Some.ensures.some.1 c.in-Some.ensures.some.0 l c.holds.ensures.table (λ h. (c.holds.ensures.kept h, c.holds.ensures.numbers h))
+    (c.if-not-has_room.ensures l.row l.directory l.at l.holds) c.as_slice.ensures.named c.requires.short c.holds-in-Some.ensures.table (g.F.Files.stored c.change.new.self.files) c.change.new.self.root
+    (g.F.Files.failures c.change.new.self.files) c.change.result c.change.ensures.does
 
 pub returns-in-Some-clause-stored : goal.returns-in-Some-clause-stored
 returns-in-Some-clause-stored g c h =

@@ -1,5 +1,11 @@
-use Rattle.std.proofs.Common.{Some, inr, refl}
+use Rattle.std.proofs.Common.{[], ◌∷◌, ◌++◌, false, Some, inr, refl}
+use Rattle.eden_model.specs.Shown.{node_from}
+use Rattle.eden_tree.specs.Directory.{Row}
+use Rattle.eden_coupling.specs.Filing.{leaf, content_shown, HasFile}
+use Rattle.eden_materialise.specs.Listings.{PutsEntry}
 use Rattle.eden_materialise.specs.Reforms.{of_kind}
+use Rattle.eden_materialise.specs.Showing.{ShowsAt}
+use Rattle.eden_materialise.proofs.Outcomes.{puts_ok, each_ok}
 use Rattle.eden_materialise.proofs.Listings.{changes_table, changes_marks, changes_stay, changes_kept_then, changes_unseen}
 use Rattle.eden_materialise.proofs.Reforms.{may_reform, reform_shown}
 use Rattle.eden_materialise.proofs.Numbered.{changes_numbered}
@@ -59,15 +65,30 @@ change_in_place-requires-clause-names g c files root answer does =
     c.args.name.now w (of_kind c.args.kind w) c.requires.there.1 answer (does w c.requires.there.1)
 
 pub returns-clause-shown : goal.returns-clause-shown
-returns-clause-shown g c h w has =
+returns-clause-shown g c h =
     let t = c.args.inodes.now in
     let then = c.change_in_place.new.self in
-    reform_shown g.W.World.honest g.W.World.repository c.args.path.now c.args.name.now c.args.kind w (g.F.Files.stored t.files) t.root (g.F.Files.failures t.files)
+    let p = c.args.path.now in
+    let n = c.args.name.now in
+    let k = c.args.kind in
+    let R = g.W.World.repository in
+    let F = g.F.Files.stored t.files in
+    each_ok c.change_in_place.result (HasFile t.root p n)
+    (λ (w : Row). ShowsAt g.W.World g.F.Files (p ++ n ∷ []) (leaf (node_from k (content_shown R F w) false)) t then)
+    (λ w has. reform_shown g.W.World.honest R p n k w F t.root (g.F.Files.failures t.files)
     (g.F.Files.stored then.files) then.root (g.F.Files.failures then.files) t.next c.holds.ensures.table h (c.holds.ensures.kept h) has c.requires.file
-    c.change_in_place.result (c.change_in_place.ensures.does w has)
+    c.change_in_place.result (c.change_in_place.ensures.does w has))
 
 pub returns-clause-ok : goal.returns-clause-ok
-returns-clause-ok g c w has = (c.change_in_place.ensures.does w has).ok
+returns-clause-ok g c =
+    let r = c.change_in_place.result in
+    let x = c.args.inodes.now.root in
+    let z = c.change_in_place.new.self.root in
+    let p = c.args.path.now in
+    let n = c.args.name.now in
+    let k = c.args.kind in
+    each_ok r (HasFile x p n) (λ (w : Row). PutsEntry p n (Some (of_kind k w)) x z)
+    (λ w has. puts_ok r p n (Some (of_kind k w)) x z (c.change_in_place.ensures.does w has).ok)
 
 pub returns-clause-counted : goal.returns-clause-counted
 returns-clause-counted g c = (c.change_in_place.ensures.does c.requires.there.0 c.requires.there.1).counted

@@ -1,5 +1,6 @@
 use Rattle.std.proofs.Common.{None}
 use Rattle.eden_materialise.proofs.Listings.{changes_table, changes_marks, changes_stay}
+use Rattle.eden_materialise.proofs.Outcomes.{puts_ok}
 use Rattle.eden_materialise.proofs.Removals.{may_remove, removes, removes_strays, removes_fault, removes_counted, removes_kept, removes_shown, removes_unseen}
 use Rattle.eden_materialise.proofs.Numbered.{removes_numbered}
 use Rattle.eden_materialise.proofs.Renumbered.{removes_takes, removes_same}
@@ -41,7 +42,8 @@ change-requires-clause-numbers g c h files root answer does =
     (g.F.Files.stored files) root (g.F.Files.failures files) t.next c.holds.ensures.table may h (c.holds.ensures.kept h) (c.holds.ensures.numbers h) answer does
 
 pub returns-clause-ok : goal.returns-clause-ok
-returns-clause-ok g c = c.change.ensures.does.changes.ok
+returns-clause-ok g c =
+    puts_ok c.change.result c.args.path.now c.args.name.now None c.args.inodes.now.root c.change.new.self.root c.change.ensures.does.changes.ok
 
 pub returns-clause-removed : goal.returns-clause-removed
 returns-clause-removed g c =
