@@ -66,7 +66,7 @@ def make_commit(folder: pathlib.Path, files: dict[str, bytes]) -> tuple[Commit, 
 
 
 def contents_of(repository: pathlib.Path, ids: Iterable[str]) -> dict[str, bytes]:
-    """The contents of objects, each behind its line in one output of Git's."""
+    """The contents of objects, each after its line in one output of Git's."""
     wanted = sorted(ids)
     asked = "".join(f"{object_id}\n" for object_id in wanted).encode()
     output = git(repository, "cat-file", "--batch", data=asked, text=False)
@@ -177,7 +177,7 @@ def replied(tree: WholeTree, requests: Iterable[tuple[str, Values]]) -> list[tup
 
 
 def as_described(name: str, read: Callable[..., Read], *words: Any) -> Read | None:
-    """What is read of files; None where one isn't as described."""
+    """What is read of files; None if one isn't as described."""
     try:
         return read(*words)
     except Damaged as damage:

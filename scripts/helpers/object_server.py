@@ -13,7 +13,7 @@ from yakembi.addresses import Address, AddressServer, ConnectionHandler, socket_
 LONGEST_HELD = 25
 
 
-# What is answered to an id, and whether the connection goes on.
+# What is answered to an id, and whether the connection continues.
 Answer = Callable[[str], tuple[bytes, bool]]
 
 

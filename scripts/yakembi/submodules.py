@@ -1,7 +1,7 @@
 """Submodules that Git has filled in a mounted folder, and places that they name.
 
 The repository of each lies below the overlay's folder `git`, in `modules`, and says where its working tree is
-(`core.worktree`); there a file `.git` says where the repository is, each from where it lies itself. Where the mounted
+(`core.worktree`); there a file `.git` says where the repository is, each from where it lies itself. If the mounted
 folder or the overlay lies elsewhere than before, both are put right.
 """
 
