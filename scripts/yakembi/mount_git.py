@@ -545,9 +545,9 @@ def parser() -> argparse.ArgumentParser:
                        help=f"how many requests are answered at once; if left out {THREADS} of a partial clone, "
                             "with --log and for a path that is no UTF-8, and else 1")
     found.add_argument("--background", metavar="FILE",
-                       help="go on in the background once it is mounted, and write to the end of that file what there "
-                       "is to tell")
-    found.add_argument("--log", action="store_true", help="tell each object that is fetched on standard error")
+                       help="run on in the background once it is mounted, and write to the end of that file what there "
+                       "is to report")
+    found.add_argument("--log", action="store_true", help="print each object that is fetched on standard error")
     return found
 
 
