@@ -36,7 +36,7 @@ def tell(text: str) -> None:
 
 @contextlib.contextmanager
 def locked(crate: pathlib.Path) -> Iterator[int]:
-    """Keeps `rt` and other rooms out of a crate's folder meanwhile."""
+    """Keeps `rt` and other rooms out of a crate's directory meanwhile."""
     folder = os.open(crate, os.O_RDONLY)
     try:
         fcntl.flock(folder, fcntl.LOCK_EX)
@@ -82,7 +82,7 @@ def furnish(room: pathlib.Path, name: str, below: Iterable[str]) -> None:
 
 @contextlib.contextmanager
 def room_of(name: str, below: Iterable[str]) -> Iterator[tuple[pathlib.Path, int]]:
-    """A crate's folder in a room of its own, and the lock that keeps others out as long as somebody has it."""
+    """A crate's directory in a room of its own, and the lock that keeps others out as long as somebody has it."""
     out = TOP / "crates" / name / "out"
     room = out / "room"
     with locked(out.parent) as lock:

@@ -27,7 +27,7 @@ def number_at(place: int, default: int) -> int:
 
 
 class Case(unittest.TestCase):
-    """A test with a folder of its own, which fails if one of its checks does."""
+    """A test with a directory of its own, which fails if one of its checks does."""
 
     folder: pathlib.Path
     # How many checks had failed before it, and failures that no check counted.

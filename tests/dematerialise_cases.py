@@ -536,7 +536,7 @@ class DematerialiseByGit(cases.Case):
             check("the repository was moved", self.state(), seen)
 
     def test_cut_short_and_strange(self) -> None:
-        """If it was cut short before Git's folder followed, a repository that has the tree alone is refused."""
+        """If it was cut short before Git's directory followed, a repository that has the tree alone is refused."""
         with self.mounted() as mount:
             self.begun(mount)
             (mount.folder / "plain.txt").write_text("mine\n")

@@ -412,7 +412,7 @@ class DotGit(cases.Case):
             check("the end in peace", (mount.end("SIGTERM"), mount.said()), (0, []))
 
     def test_lost(self) -> None:
-        """What a disk lost of the overlay's folder `git` loses no branch and nothing that is staged, and ends no
+        """What a disk lost of the overlay's directory `git` loses no branch and nothing that is staged, and ends no
         mount."""
         with self.mounted() as mount:
             self.made(mount)

@@ -220,7 +220,7 @@ class Files:
 
 
 class Chosen:
-    """Random operations, most of them on what is open, as the plain folder has it."""
+    """Random operations, most of them on what is open, as the plain directory has it."""
 
     def __init__(self, generator: random.Random, plain: Files) -> None:
         self.random = generator

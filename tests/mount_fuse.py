@@ -62,7 +62,7 @@ def run_tools(both: Both) -> None:
 
 
 def check_random_operations(folder: pathlib.Path, seed: int) -> None:
-    """Random operations through FUSE and on a plain folder have the same outcomes, and leave the same."""
+    """Random operations through FUSE and on a plain directory have the same outcomes, and leave the same."""
     repository = make_repository(folder)
     plain = checkout(repository, folder / "plain")
     with MountGit(repository, "HEAD", folder / "mounted") as mount:
@@ -431,7 +431,7 @@ def check_signed_commit(folder: pathlib.Path) -> None:
 
 
 def check_empty_tree(folder: pathlib.Path) -> None:
-    """A commit of the empty tree, which Git knows without storing it, is an empty folder that takes files."""
+    """A commit of the empty tree, which Git knows without storing it, is an empty directory that takes files."""
     repository = make_repository(folder)
     commit = git(repository, "commit-tree", "-m", "empty", EMPTY_TREE)
     stored = git(repository, "cat-file", "--batch-all-objects", "--batch-check=%(objectname)").split()

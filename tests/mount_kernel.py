@@ -1,4 +1,4 @@
-"""A commit that `mountd fuse` shows: calls of the system in it and in a plain folder, and what its ends leave."""
+"""A commit that `mountd fuse` shows: calls of the system in it and in a plain directory, and what its ends leave."""
 
 import collections
 import contextlib
@@ -52,7 +52,7 @@ def beside_plain(folder: pathlib.Path, repository: pathlib.Path) -> Iterator[tup
 
 
 def check_calls(folder: pathlib.Path, repository: pathlib.Path) -> None:
-    """Calls of the system, after the subjects of pjdfstest, say and leave what they do in a plain folder."""
+    """Calls of the system, after the subjects of pjdfstest, say and leave what they do in a plain directory."""
     with beside_plain(folder, repository) as (tops, differences):
         for call in CALLS:
             check_steps(call, [top / call.__name__ for top in tops], differences)

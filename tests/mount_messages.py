@@ -609,7 +609,7 @@ FILES = {"file": b"first\n", "dir/a": b"1", "dir/d/e": b"2\n", "lost": LOST_BYTE
 
 
 def make_place(folder: pathlib.Path) -> tuple[Place, Commit, FolderModel]:
-    """A commit, of which the object of two files is lost, the folder of an overlay, and what is to be shown."""
+    """A commit, of which the object of two files is lost, the directory of an overlay, and what is to be shown."""
     commit, objects = make_commit(folder, FILES)
     lost = git(folder / "repository", "rev-parse", "HEAD:lost")
     (objects / lost[:2] / lost[2:]).unlink()

@@ -1,7 +1,7 @@
 """Calls of the system on names of all kinds, after pjdfstest's subjects, in a mounted folder and in a plain one.
 
 Each case is a call and the path that it is given, among the same few names in both folders. What it gives, or the name
-of its error's number, and what it leaves are the plain folder's, but where `mount_differences` has it otherwise.
+of its error's number, and what it leaves are the plain directory's, but where `mount_differences` has it otherwise.
 """
 
 import contextlib

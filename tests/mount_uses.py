@@ -50,11 +50,11 @@ def over_git(repository: pathlib.Path, overlay: pathlib.Path) -> Iterator[tuple[
             yield kernel, server
 
 
-# ---- beside a plain folder
+# ---- beside a plain directory
 
 
 def check_operations(folder: pathlib.Path, seed: int) -> None:
-    """Random operations by messages and on a plain folder have the same outcomes, and leave the same."""
+    """Random operations by messages and on a plain directory have the same outcomes, and leave the same."""
     repository = make_repository(folder)
     plain = Folder(checkout(repository, folder / "plain"))
     with over_git(repository, folder / "overlay") as (kernel, _):

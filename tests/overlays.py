@@ -1,4 +1,4 @@
-"""A commit as Git has it, runs of the program over an overlay's folder, and what the files of a closed one show."""
+"""A commit as Git has it, runs of the program over an overlay's directory, and what the files of a closed one show."""
 
 import pathlib
 import subprocess
@@ -83,7 +83,7 @@ def contents_of(repository: pathlib.Path, ids: Iterable[str]) -> dict[str, bytes
 
 
 class Place:
-    """A commit with its objects, in a folder or with `--git` in a repository, and the folder of an overlay."""
+    """A commit with its objects, in a folder or with `--git` in a repository, and the directory of an overlay."""
 
     def __init__(self, root: str, objects: pathlib.Path, overlay: pathlib.Path, option: str = "--objects") -> None:
         self.root = root

@@ -147,7 +147,7 @@ def make_alternates(repository: pathlib.Path) -> None:
         for path in packs_of(repository).glob(pack.stem + ".*"):
             path.rename(objects / "pack" / path.name)
     (first / "info/alternates").write_text(f"# the next\n{second}\n")
-    # A path is meant from the folder of objects that names it.
+    # A path is meant from the directory of objects that names it.
     (second / "info/alternates").write_text("../third\n")
     loose = repository / "loose"
     git(repository, "init", "-q", "--bare", str(loose))

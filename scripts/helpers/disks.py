@@ -26,14 +26,14 @@ def small_disk(place: pathlib.Path, size: int) -> Iterator[pathlib.Path | None]:
             finished(["umount", "-l", place], capture_output=True)
 
 
-# Where most machines have a folder in memory, and the most bytes of one that is made.
+# Where most machines have a directory in memory, and the most bytes of one that is made.
 SHARED_MEMORY = pathlib.Path("/dev/shm")
 MOST_MEMORY = 1 << 30
 
 
 @contextlib.contextmanager
 def folder_in_memory() -> Iterator[pathlib.Path]:
-    """A folder that no disk delays, whose file system keeps what is waited for. On a disk if memory has none."""
+    """A directory that no disk delays, whose file system keeps what is waited for. On a disk if memory has none."""
     with tempfile.TemporaryDirectory() as name, small_disk(pathlib.Path(name) / "memory", MOST_MEMORY) as made:
         beside = SHARED_MEMORY if os.access(SHARED_MEMORY, os.W_OK) else None
         with tempfile.TemporaryDirectory(dir=made or beside) as folder:

@@ -55,7 +55,7 @@ class Connection(ConnectionHandler):
 
 
 class Stored:
-    """A folder of objects to be served: it notes what it is asked for, and may fail or wait before it answers."""
+    """A directory of objects to be served: it notes what it is asked for, and may fail or wait before it answers."""
 
     def __init__(self, folder: pathlib.Path, delay: float = 0, fails_each: int | None = None) -> None:
         self.folder = folder

@@ -67,7 +67,7 @@ def is_text(path: str) -> bool:
 
 
 def temporary_place() -> str:
-    """The folder for temporary files, or /tmp if mountd can't be given its path."""
+    """The directory for temporary files, or /tmp if mountd can't be given its path."""
     place = tempfile.gettempdir()
     return place if is_text(place) else "/tmp"
 

@@ -1,4 +1,4 @@
-"""Which blobs lie in one folder, as the trees say that went through a server of objects, or that a clone has."""
+"""Which blobs lie in one directory, as the trees say that went through a server of objects, or that a clone has."""
 
 import bisect
 import collections
@@ -197,7 +197,7 @@ class Trees:
 
 
 def folder_or_none(tree_id: str, body: bytes) -> Folder | None:
-    """A tree's folder; None if it is damaged."""
+    """A tree's directory; None if it is damaged."""
     try:
         return Folder(tree_id, body)
     except Refusal:

@@ -75,7 +75,7 @@ class Stand(NamedTuple):
 
 
 class GitFolder:
-    """The folder of an overlay. `lock` has it for one run of `mount-git` at a time; Git has locks of its own."""
+    """The directory of an overlay. `lock` has it for one run of `mount-git` at a time; Git has locks of its own."""
 
     def __init__(self, overlay: str | os.PathLike[str]) -> None:
         self.path = pathlib.Path(os.path.realpath(overlay), "git")

@@ -3,7 +3,7 @@ though no branch has them any more: the overlay has changes alone, and `git gc` 
 overlay that was dematerialised has entries on objects of each tree that it ever stood on, so these are kept too.
 
 They are named by the overlay's path and its own name, which no other overlay has that comes to lie there. A link of
-that name, in the repository's folder `mount-git`, leads to the overlay: if it leads nowhere for long, they go. A
+that name, in the repository's directory `mount-git`, leads to the overlay: if it leads nowhere for long, they go. A
 repository that can't be written keeps nothing more.
 """
 

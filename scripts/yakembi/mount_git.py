@@ -1,8 +1,8 @@
 """Shows a commit of a Git repository as a folder, through FUSE, without checking it out.
 
-What is read is fetched when it is first read. What is changed is kept in the overlay, a folder from which the next
-mount continues; without one, changes are gone with the mount. Ctrl-C, SIGTERM, SIGHUP and `fusermount3 -u FOLDER` end
-it. What a killed mount left on the folder is unmounted first.
+What is read is fetched when it is first read. What is changed is kept in the overlay, a directory from which the
+next mount continues; without one, changes are gone with the mount. Ctrl-C, SIGTERM, SIGHUP and `fusermount3 -u FOLDER`
+end it. What a killed mount left on the folder is unmounted first.
 
 It needs Debian's package fuse3, and mountd, which `make run` builds.
 """
@@ -130,7 +130,7 @@ def check_hides_nothing(folder: str, repository: Repository) -> None:
 
 @contextlib.contextmanager
 def overlay_at(path: str | None, repository: Repository) -> Iterator[OverlayFolder]:
-    """The overlay's folder; a temporary one if none is named, which the repository forgets in the end."""
+    """The overlay's directory; a temporary one if none is named, which the repository forgets in the end."""
     with contextlib.ExitStack() as stack:
         is_named = path is not None
         if path is None:
@@ -538,7 +538,8 @@ def parser() -> argparse.ArgumentParser:
     add_mountd(found)
     found.add_argument("--ahead", metavar="BYTES", type=number_of_bytes, default=AHEAD,
                        help="of a partial clone, fetch at most this many bytes before a program asks for them: "
-                       f"subfolders, and other files of a folder whose files are read; 0: none; {AHEAD} if left out")
+                       "subdirectories, and other files of a directory whose files are read; 0: none; "
+                       f"{AHEAD} if left out")
     found.add_argument("--kernel", action="store_true",
                        help="has no effect any more: mountd always speaks the kernel's protocol itself")
     found.add_argument("--threads", metavar="N", type=number_of_threads,

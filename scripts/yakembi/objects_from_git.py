@@ -1,4 +1,4 @@
-"""Writes the objects of one Git commit into a folder that `mountd --objects` serves.
+"""Writes the objects of one Git commit into a directory that `mountd --objects` serves.
 
 Each tree, blob and link of the commit becomes the file DIR/xx/yyyy.., framed and uncompressed, where xxyyyy.. is its
 id. A submodule's commit is not written: it shows as an empty directory. An object that is in DIR already is left
@@ -185,7 +185,7 @@ def parser() -> argparse.ArgumentParser:
     found.add_argument("repository", metavar="REPO")
     found.add_argument("revision", metavar="REV")
     found.add_argument("folder", metavar="DIR",
-                       help="the folder of objects (write -- before a name that begins with -)")
+                       help="the directory of objects (write -- before a name that begins with -)")
     return found
 
 

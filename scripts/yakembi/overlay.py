@@ -1,4 +1,4 @@
-"""An overlay's folder, as a mount of a Git commit finds and leaves it: whose it is, and on which tree it stands.
+"""An overlay's directory, as a mount of a Git commit finds and leaves it: whose it is, and on which tree it stands.
 
 The files whose names are numbers are mountd's, and so are `lock` and `journal`. The file `mount-git` beside them is
 ours: who holds its lock has the overlay, also while mountd is closed and opened again, and its line names the tree, the

@@ -190,7 +190,7 @@ def state_of(data: bytes) -> tuple[str, int]:
 
 
 def stored(folder: pathlib.Path) -> dict[int, bytes]:
-    """The files of a folder by their numbers, with its journal over them; other names are passed over.
+    """The files of a directory by their numbers, with its journal over them; other names are passed over.
 
     A journal beside the state is from before that, and says nothing any more.
     """
