@@ -445,7 +445,7 @@ def check_empty_tree(folder: pathlib.Path) -> None:
 
 def check_damaged_repository(folder: pathlib.Path) -> None:
     """A file whose object is lost, or damaged, is EIO, and a line names a lost one if lines were asked for; all else
-    goes on."""
+    is answered."""
     repository = make_repository(folder)
     with MountGit(repository, "HEAD", folder / "mounted", "--log") as mount:
         for name, content, lines in [("plain.txt", None, 1), ("run.sh", b"blob 6\0other\n", 0)]:

@@ -38,7 +38,7 @@ class Unanswered(Exception):
 
 
 class TooSlow(Unanswered):
-    """It went on, and took longer than it may."""
+    """It continued, and took longer than it may."""
 
 
 class Bounds(NamedTuple):

@@ -66,7 +66,7 @@ BESIDE_MERGED = "MERGE_MSG", "MERGE_MODE", "AUTO_MERGE", "SQUASH_MSG"
 
 
 class Stand(NamedTuple):
-    """The commit that a mounted folder stands on, if its branch has one, and the branch that goes on to the next
+    """The commit that a mounted folder stands on, if its branch has one, and the branch that moves to the next
     one. `left` is the branch that it was on until it was looked at, if somebody else had moved that."""
 
     commit: str | None
@@ -310,7 +310,7 @@ class GitFolder:
     def is_strange_to(self, repository: Repository, tree: str, commit: str | None) -> bool:
         """Whether Git worked in the folder for another repository, with that tree mounted, and this one has none of the
         commits on which the folder ever stood, as far as HEAD, its log and that commit say. It may have the tree all
-        the same, but nothing on which HEAD could go on. A Refusal, if the repository is away."""
+        the same, but nothing on which HEAD could continue. A Refusal, if the repository is away."""
         made = self.made_for()
         if made.get("tree") != tree or made["of"] == repository.common_folder:
             return False

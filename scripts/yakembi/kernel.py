@@ -426,7 +426,7 @@ class Showing:
         self.is_ended = True
         if is_own(self.place):
             unmount_unused(self.folder)
-        # If it is in use it goes on, and if another namespace has it too.
+        # If it is in use it runs on, and if another namespace has it too.
         abort(self.place, self.control)
         if is_own(self.place):
             unmount(self.folder)
