@@ -13,7 +13,7 @@ Below = dict[str, list[str]]
 
 
 def rows() -> dict[str, tuple[list[str], list[str]]]:
-    """Each crate of crates.txt, and its row: the words before the colon, and the libraries behind it."""
+    """Each crate of crates.txt, and its row: the words before the colon, and the libraries after it."""
     found = {}
     for line in (TOP / "crates.txt").read_text().splitlines():
         head, colon, below = line.partition("#")[0].partition(":")
@@ -42,7 +42,7 @@ def has_tests(name: str) -> bool:
 
 
 def in_order(below: Below) -> list[str]:
-    """The crates, each behind those that it stands on."""
+    """The crates, each after those that it stands on."""
     order: list[str] = []
 
     def visit(name: str) -> None:
@@ -87,7 +87,7 @@ class Marks:
         return is_there and self.place(name).is_file() and self.place(name).read_text() == self.digests[name]
 
     def left(self) -> list[str]:
-        """The crates that haven't passed, each behind those that it stands on."""
+        """The crates that haven't passed, each after those that it stands on."""
         return [name for name in self.digests if not self.is_set(name)]
 
     def set(self, name: str) -> None:

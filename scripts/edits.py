@@ -33,7 +33,7 @@ def lines_of(edit: pathlib.Path) -> Iterator[tuple[str, str]]:
 
 
 def changed_files(edit: pathlib.Path, crate: pathlib.Path) -> dict[pathlib.Path, str]:
-    """The files of the crate's folder that the edit changes, and their texts behind it."""
+    """The files of the crate's directory that the edit changes, and their texts after it."""
     found: dict[pathlib.Path, str] = {}
     file: pathlib.Path | None = None
     old: str | None = None

@@ -36,7 +36,7 @@ def tell(text: str) -> None:
 
 @contextlib.contextmanager
 def locked(crate: pathlib.Path) -> Iterator[int]:
-    """Keeps `rt` and other rooms out of a crate's folder meanwhile."""
+    """Keeps `rt` and other rooms out of a crate's directory meanwhile."""
     folder = os.open(crate, os.O_RDONLY)
     try:
         fcntl.flock(folder, fcntl.LOCK_EX)
@@ -82,7 +82,7 @@ def furnish(room: pathlib.Path, name: str, below: Iterable[str]) -> None:
 
 @contextlib.contextmanager
 def room_of(name: str, below: Iterable[str]) -> Iterator[tuple[pathlib.Path, int]]:
-    """A crate's folder in a room of its own, and the lock that keeps others out as long as somebody has it."""
+    """A crate's directory in a room of its own, and the lock that keeps others out as long as somebody has it."""
     out = TOP / "crates" / name / "out"
     room = out / "room"
     with locked(out.parent) as lock:
@@ -122,7 +122,7 @@ Ended = tuple[bool, bytes, float]
 
 
 def library_tasks(left: list[str], below: Below, mark: Callable[[str], object]) -> dict[str, Task]:
-    """The proof of each of these libraries, once those below it are proved; `mark` is told the name of each."""
+    """The proof of each of these libraries, once those below it are proved; `mark` gets the name of each."""
     def task(name: str) -> Task:
         return Task(name, ["lib"], [other for other in below[name] if other in left], lambda: mark(name))
 
@@ -130,7 +130,7 @@ def library_tasks(left: list[str], below: Below, mark: Callable[[str], object]) 
 
 
 def weight_of(crate: str) -> int:
-    """What a crate's proof takes, told by the length of its code: some six seconds of a processor for each 1,000
+    """What a crate's proof takes, judged by the length of its code: some six seconds of a processor for each 1,000
     bytes, twice that in the highest crates."""
     return sum(path.stat().st_size for path in (TOP / "crates" / crate / "src").rglob("*.rt"))
 
@@ -145,8 +145,8 @@ def half_of_the_memory() -> int:
 
 
 class Lanes:
-    """Tasks that run side by side, those with the longest chain of others behind them first. `tasks` has each by its
-    name, behind those that it waits for."""
+    """Tasks that run side by side, those with the longest chain of others after them first. `tasks` has each by its
+    name, after those that it waits for."""
 
     def __init__(self, tasks: dict[str, Task], below: Below) -> None:
         self.tasks, self.below = tasks, below
@@ -203,7 +203,7 @@ class Lanes:
         with room_of(task.crate, below) as (folder, lock):
             if self.is_over:
                 return False, b"", 0
-            # Where we are killed, who proves goes on for a while: the lock goes with it. A group, and no session: Linux
+            # If we are killed, who proves runs on for a while: the lock goes with it. A group, and no session: Linux
             # gives each session the same share of the processors, whatever its jobs.
             process = subprocess.Popen(["rt", verb, "--jobs", str(jobs), *rest], cwd=folder, stdin=subprocess.DEVNULL,
                                        stdout=subprocess.PIPE, stderr=subprocess.STDOUT, process_group=0,
@@ -220,7 +220,7 @@ class Lanes:
                 os.killpg(process.pid, signal.SIGTERM)
 
     def end(self, future: Future[Ended]) -> None:
-        """Tells of a task that ended; where it failed, no other goes on."""
+        """Reports a task that ended; if it failed, no other runs on."""
         name, _ = self.running.pop(future)
         is_well, said, seconds = future.result()
         if self.is_over:

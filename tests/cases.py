@@ -22,12 +22,12 @@ OPTIONS = sys.argv[1 + len(WORDS) :]
 
 
 def number_at(place: int, default: int) -> int:
-    """The number that is the script's word at that place, the first being 1; the default where there is none."""
+    """The number that is the script's word at that place, the first being 1; the default if there is none."""
     return int(WORDS[place - 1]) if len(WORDS) >= place else default
 
 
 class Case(unittest.TestCase):
-    """A test with a folder of its own, which fails if one of its checks does."""
+    """A test with a directory of its own, which fails if one of its checks does."""
 
     folder: pathlib.Path
     # How many checks had failed before it, and failures that no check counted.
@@ -75,7 +75,7 @@ class Result(unittest.TextTestResult):
             self.fail_by(test, err)
 
     def fail_by(self, test: unittest.TestCase, err: Any) -> None:
-        """Counts a failure that no check counted, and tries no more tests where too many programs hung."""
+        """Counts a failure that no check counted, and tries no more tests if too many programs hung."""
         if isinstance(err[1], checks.GivenUp):
             self.stop()
         if checks.failed == self.before[1]:

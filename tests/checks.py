@@ -14,7 +14,7 @@ from helpers.running import PATIENCE, STILL_RUNNING, doing, ending_of, finished,
 __all__ = ["PATIENCE", "STILL_RUNNING", "GivenUp", "check", "closing_line", "doing", "ending_of", "finished", "git",
            "make_repository", "skip", "status_of", "watched", "whole_tree"]
 
-# After so many programs that hang a script ends: there may be thousands of runs left.
+# After this many programs that hang a script ends: there may be thousands of runs left.
 MOST_HUNG = 3
 
 passed = 0

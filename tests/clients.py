@@ -81,7 +81,7 @@ def leaves_seen_by(client: Client, leaves: list[tuple[Path, bytes]]) -> Iterator
 
 
 def rest_of(client: Client, path: Path) -> bytes:
-    """What stands in a file behind its first page."""
+    """What stands in a file after its first page."""
     content = b""
     while True:
         line = b"read %s %d %d" % (path_text(path), LONGEST_DATA + len(content), LONGEST_DATA)

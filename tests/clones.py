@@ -32,7 +32,7 @@ def make_far_repository(folder: pathlib.Path) -> pathlib.Path:
 
 
 class Clone:
-    """A clone with a filter and without a checkout, in a folder of its own."""
+    """A clone with a filter and without a checkout, in a directory of its own."""
 
     def __init__(self, repository: pathlib.Path, folder: pathlib.Path, objects: str) -> None:
         folder.mkdir()

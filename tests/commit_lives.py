@@ -22,7 +22,7 @@ from yakembi.packs import objects_in, write_pack
 from yakembi.tree_model import Path, WholeTree
 
 REQUESTS_IN_A_LIFE = 250
-# A tree grows by so many nodes at least, before requests only take away and move.
+# A tree grows by this many nodes at least, before requests only take away and move.
 MORE_NODES = 60
 # What Git says of a `.gitmodules` or `.gitattributes` that is no file, or has other lines: random requests make such.
 RULES = re.compile(rb"(?:error|warning) in (?:tree|blob) [0-9a-f]{40}: git(?:modules|attributes|ignore)[A-Z]")
@@ -89,7 +89,7 @@ class WantedSnapshot:
                             if other.startswith(there)}
 
     def is_submodule(self, path: Path) -> bool:
-        """Another one has the commit's id, where the commit has one at its path, by the trees that lead there."""
+        """Another one has the commit's id, if the commit has one at its path, by the trees that lead there."""
         for count in range(len(path)):
             front = b"".join(name + b"/" for name in path[:count])
             if front not in self.served.trees:
@@ -126,7 +126,7 @@ class Alone:
         return self.place
 
     def lose_one(self, generator: random.Random) -> bool:
-        """Removes one of them, where there is one."""
+        """Removes one of them, if there is one."""
         if not self.ids:
             return False
         lost = generator.choice(sorted(self.ids))

@@ -24,7 +24,7 @@ from yakembi.overlay import is_held
 from yakembi.overlay_files import FILE, STATE_NUMBER, stored
 
 NOTHING = 0, "dematerialised 0 files, 0 bytes\n", ""
-# A mountd that does what it is told, and kills who started it before a command, or behind it.
+# A mountd that does what it is told, and kills who started it before a command, or after it.
 KILLS = """#!/bin/sh
 [ {before} = "$1" ] && kill -9 $PPID && exit
 '{mountd}' "$@"
@@ -78,7 +78,7 @@ class Dematerialise(cases.Case):
         return {path: (*node, mount.requests.stat(path).number) for path, node in shown(mount).items()}
 
     def change(self, mount: StandIn) -> None:
-        """Two commits of all kinds of changes, and one change behind them."""
+        """Two commits of all kinds of changes, and one change after them."""
         requests = mount.requests
         requests.create(b"/dir/new")
         requests.write(b"/dir/new", 0, b"new\n")
@@ -143,7 +143,7 @@ class Dematerialise(cases.Case):
             check(f"{name} alone: nothing goes", (noted(self.overlay), self.files()), (before, files))
 
     def test_cut_short(self) -> None:
-        """Killed behind any of its steps: the next mount shows what was shown, and the next run ends it."""
+        """Killed after any of its steps: the next mount shows what was shown, and the next run ends it."""
         for number, (before, behind) in enumerate([("dematerialise", ""), ("", "dematerialise")]):
             with self.mounted() as mount:
                 mount.requests.write(b"/plain.txt", 0, b"cut %d\n" % number)
@@ -216,7 +216,7 @@ class Dematerialise(cases.Case):
         return {path.name: path.read_bytes() for path in self.overlay.iterdir() if path.is_file()}
 
     def test_failed(self) -> None:
-        """Where mountd isn't there, or can't have the overlay, nothing changes, and so no time does; but the overlay
+        """If mountd isn't there, or can't have the overlay, nothing changes, and so no time does; but the overlay
         knows of the tree that it was to stand on."""
         with self.mounted() as mount:
             mount.requests.write(b"/plain.txt", 0, b"PLAIN")
@@ -233,7 +233,7 @@ class Dematerialise(cases.Case):
         check("locked: nothing changes", self.files(), before)
 
     def test_orphan(self) -> None:
-        """Where the run is killed while mountd is at work, the overlay is in use until that ends."""
+        """If the run is killed while mountd is at work, the overlay is in use until that ends."""
         with self.mounted() as mount:
             mount.requests.write(b"/plain.txt", 0, b"PLAIN")
             self.committed(mount)
@@ -378,7 +378,7 @@ class DematerialiseByGit(cases.Case):
                 check(f"{words}: it looks at what it did", is_plain or self.told() >= told, True)
 
     def test_staged_submodule(self) -> None:
-        """So does one that has another commit of a submodule, also where Git is to say nothing of that one."""
+        """So does one that has another commit of a submodule, also if Git is to say nothing of that one."""
         one, two = (git(self.repository, "commit-tree", "HEAD^{tree}", "-m", name) for name in ("one", "two"))
         with self.mounted() as mount:
             self.begun(mount)
@@ -419,7 +419,7 @@ class DematerialiseByGit(cases.Case):
 
     def test_lacked_trees(self) -> None:
         """A clone made anew lacks a tree that nobody pushed, and from which the overlay has a file: that is told, and
-        all else is shown. Where the overlay doesn't know its trees, or has nothing of them any more, nothing is."""
+        all else is shown. If the overlay doesn't know its trees, or has nothing of them any more, nothing is."""
         for words in (["add", "only"], ["rm", "-q", "--cached", "only"]):
             with self.mounted() as mount:
                 self.begun(mount)
@@ -536,7 +536,7 @@ class DematerialiseByGit(cases.Case):
             check("the repository was moved", self.state(), seen)
 
     def test_cut_short_and_strange(self) -> None:
-        """Where it was cut short before Git's folder followed, a repository that has the tree alone is refused."""
+        """If it was cut short before Git's directory followed, a repository that has the tree alone is refused."""
         with self.mounted() as mount:
             self.begun(mount)
             (mount.folder / "plain.txt").write_text("mine\n")
@@ -559,7 +559,7 @@ class DematerialiseByGit(cases.Case):
             check("what was changed", mount_git("changes", mount.folder), (0, "", ""))
 
     def test_moved_elsewhere(self) -> None:
-        """Where somebody else moved the branch, the commit on which the folder stood counts, and that is told."""
+        """If somebody else moved the branch, the commit on which the folder stood counts, and a line says so."""
         with self.mounted() as mount:
             self.begun(mount)
             (mount.folder / "plain.txt").write_text("mine\n")

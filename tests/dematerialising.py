@@ -38,7 +38,7 @@ from yakembi.tree_model import Nodes, Numbers, Path, WholeTree
 SEED = cases.number_at(2, default=1)
 TURNS, LIVES, REQUESTS_IN_A_LIFE = 6, 3, 120
 MODES = {PLAIN: b"100644", EXECUTABLE: b"100755", A_LINK: LINK}
-# The calls behind which a run is cut off.
+# The calls after which a run is cut off.
 STEPS = (FSYNC, FDATASYNC, UNLINK, UNLINKAT)
 DONE: Ending = (0, b"", b"")
 OF_AN_OBJECT: Ending = (4, b"", b"mountd: dematerialise Object\n")
@@ -61,7 +61,7 @@ def words(place: Place, to: str, *more: object) -> list[str]:
 
 
 class Wanted:
-    """The files of a closed overlay that is to stand on a tree of a repository; the numbers of those that are let go,
+    """The files of a closed overlay that is to stand on a tree of a repository; the numbers of those that are given up,
     and of those that are removed."""
 
     def __init__(self, repository: pathlib.Path, files: Files, to: str) -> None:
@@ -112,7 +112,7 @@ class Wanted:
 
 
 def readable_entries(files: Files, number: int) -> list[Entry]:
-    """An own directory's entries; none where it can't be read."""
+    """An own directory's entries; none if it can't be read."""
     try:
         return entries_of(files[number])
     except (KeyError, Damaged):
@@ -310,7 +310,7 @@ class Moves(OnRepository):
         check(f"{name}: each number", shown and shown.places == before.places, True)
 
     def check_told(self, name: str, shows: str) -> None:
-        """What differs then is what Git tells of the two trees."""
+        """What differs then is what Git lists of the two trees."""
         root = self.place.root
         status, lines, errors = told(self.place)
         check(f"{name}: changes", (status, errors), (0, b""))
@@ -318,7 +318,7 @@ class Moves(OnRepository):
         check(f"{name}: what differs", letters_of(lines, *rows), letters_in(self.repository, root, shows))
 
     def check_tidied(self, name: str, before: Shown) -> None:
-        """No file that was let go is left to be tidied away: what is, has a number that no entry has."""
+        """No file that was given up is left to be tidied away: what is, has a number that no entry has."""
         files = self.place.files()
         orphans = [number for number in files if number not in before.numbers | {0, 1}]
         done = finished([MOUNTD, "tidy", "--overlay", self.place.overlay], capture_output=True)
@@ -382,7 +382,7 @@ class Moves(OnRepository):
         return tree_of(self.repository, altered(generator, tree.nodes)) if chosen == 2 else self.commit.root
 
     def test_unrooted(self) -> None:
-        """Where nothing was changed, nothing is, and no object is asked for."""
+        """If nothing was changed, nothing is, and no object is asked for."""
         check_session("looks", self.place, [(b"kind /d0/d1", b"kind dir"), (b"kind /many/1", b"kind file")])
         files = self.place.files()
         check("numbers were saved", has_numbers(files[1]), True)
@@ -411,7 +411,7 @@ class Moves(OnRepository):
         self.check_moved("after it", to, tree)
 
     def test_objects(self) -> None:
-        """The objects that are asked for are those that are compared, and trees beside own directories. Where one of
+        """The objects that are asked for are those that are compared, and trees beside own directories. If one of
         them is lost, or has other bytes, what is shown is the same, on the old tree."""
         self.changed()
         to = self.taken()
@@ -486,7 +486,7 @@ class Moves(OnRepository):
         check(f"its steps ({count})", count > 10 + len(wanted.removed), True)
 
     def test_left_over(self) -> None:
-        """Files that a run let go and didn't remove are read by nobody, whatever becomes of their entries, and go with
+        """Files that a run gave up and didn't remove are read by nobody, whatever becomes of their entries, and go with
         the next run."""
         tree = self.changed()
         to = self.taken()
@@ -532,7 +532,7 @@ class Moves(OnRepository):
         check("the files", self.place.files(), files)
 
     def test_command_line(self) -> None:
-        """A tree that is none is told once the root and the objects are ones."""
+        """A tree that is none is reported once the root and the objects are ones."""
         refused = b"mountd: --%s takes 40 lower-case hexadecimal digits\n"
         check("no tree", dematerialise(self.place, "HEAD"), (2, b"", refused % b"tree"))
         other = Place("HEAD", self.repository, self.place.overlay, "--git")

@@ -76,7 +76,7 @@ class DotGit(cases.Case):
         check("nobody elsewhere", self.git(self.repository, "config", "core.fsmonitor"), (1, ""))
 
     def test_life(self) -> None:
-        """It stays over mounts, where the folder, the overlay and the repository are elsewhere, and is in no commit."""
+        """It stays over mounts, if the folder, the overlay and the repository are elsewhere, and is in no commit."""
         with self.mounted() as mount:
             self.made(mount)
             self.check_found(mount, f"## {self.short}")
@@ -240,7 +240,7 @@ class DotGit(cases.Case):
             check("and no more is told", (mount.status(), mount.said()), (0, [wanted]))
 
     def test_strange_and_unchanged(self) -> None:
-        """So it is where nothing was changed, and a kill left no file of a number."""
+        """So it is if nothing was changed, and a kill left no file of a number."""
         with self.mounted() as mount:
             check("a branch", mount_git("git", mount.folder, "switch", "-qc", "topic")[0], 0)
             seen = mount_git("git", mount.folder, "status", "-sb")
@@ -356,7 +356,7 @@ class DotGit(cases.Case):
             check("the end", (mount.end("SIGTERM"), [made in line for line in mount.said()]), (0, [True]))
 
     def test_submodules(self) -> None:
-        """A submodule that Git has filled is found where the folder and the overlay lie elsewhere."""
+        """A submodule that Git has filled is found if the folder and the overlay lie elsewhere."""
         inner = self.folder / "inner"
         inner.mkdir()
         git(inner, "init", "-q")
@@ -379,7 +379,7 @@ class DotGit(cases.Case):
                 check("above it", self.git(mount.folder, "status", "--porcelain"), (0, "M filled"))
 
     def test_settings_behind(self) -> None:
-        """What the repository's settings say behind doesn't count; and what counts all the same is told."""
+        """What the repository's settings say after doesn't count; and what counts all the same is reported."""
         settings = self.repository / ".git/config"
         with self.mounted() as mount:
             self.made(mount)
@@ -412,7 +412,7 @@ class DotGit(cases.Case):
             check("the end in peace", (mount.end("SIGTERM"), mount.said()), (0, []))
 
     def test_lost(self) -> None:
-        """What a disk lost of the overlay's folder `git` loses no branch and nothing that is staged, and ends no
+        """What a disk lost of the overlay's directory `git` loses no branch and nothing that is staged, and ends no
         mount."""
         with self.mounted() as mount:
             self.made(mount)

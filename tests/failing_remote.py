@@ -5,7 +5,7 @@
 FOLDER/starts gets a line at each start. FOLDER/mode says how the remote behaves:
 
     good             as it should
-    slow SECONDS     so much later
+    slow SECONDS     this much later
     dead             it ends at once
     silent           it takes the question, and says nothing
     many-silent      so if it is asked for more than one object

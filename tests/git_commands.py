@@ -17,13 +17,13 @@ from mount_folder import MountGit
 from programs import MOUNT_GIT, MOUNTD
 from yakembi.git_folder import UNDER_WAY
 
-# So many changes at most come before a command.
+# This many changes at most come before a command.
 MOST_CHANGES = 2
 STEPS_IN_A_MOUNT = 15
 # How Git knows of one mount after another.
 WAYS = ["--environment", "--dot-git", "as before"]
 STEPS_BETWEEN_LOOKS = 10
-# One in so many steps is `mount-git commit`.
+# One in this many steps is `mount-git commit`.
 COMMITS_OF_ALL = 8
 NAMES = ["plain.txt", "run.sh", "empty", "dir/a", "dir-x", "dir0", "many/3", "many/7", "notes/0/0.txt", "notes/1/1.txt",
          "notes/2", "notes/3", "hello/main.c", "hello", "new", "new/one", "new/two", "dir/b", "dir", "many/new", "left",
@@ -83,7 +83,7 @@ class Folder:
         self.variables: dict[str, str] = {}
 
     def change(self, how: str, name: str, other: str, text: str) -> bool:
-        """Changes a file as people do; False where that can't be done."""
+        """Changes a file as people do; False if that can't be done."""
         at = self.top / name
         try:
             if how == "remove":
@@ -168,7 +168,7 @@ class Twins:
 
     def commit_all(self, name: str, message: str) -> bool:
         """`mount-git commit`, and what it is in Git's words: a commit of all, with what is ignored. Nobody may stand in
-        the mounted folder. It refuses where nothing differs, and on no branch."""
+        the mounted folder. It refuses if nothing differs, and on no branch."""
         done = subprocess.run([MOUNT_GIT, "commit", self.mounted.top, "-m", message], capture_output=True,
                               timeout=PATIENCE, cwd=self.overlay, env={**environment(), **AUTHOR})
         beside, index = Folder(self.plain.top), self.overlay.with_name("index of all")
@@ -203,7 +203,7 @@ class Twins:
 
 
 def check_git_commands(folder: pathlib.Path, repository: pathlib.Path, seed: int, count: int) -> None:
-    """So many commands with random changes before them, in mount after mount; behind every second one the overlay is
+    """This many commands with random changes before them, in mount after mount; after every second one the overlay is
     dematerialised."""
     generator = random.Random(seed)
     commands, twins = Commands(generator), Twins(folder, repository)
@@ -224,7 +224,7 @@ def check_git_commands(folder: pathlib.Path, repository: pathlib.Path, seed: int
 
 
 def one_step(twins: Twins, commands: Commands, generator: random.Random, name: str) -> list[str]:
-    """Some changes and a command, whose word is answered where it succeeded."""
+    """Some changes and a command, whose word is answered if it succeeded."""
     for _ in range(generator.randrange(MOST_CHANGES + 1)):
         how = generator.choice(["write", "write", "append", "remove", "move", "chmod", "link"])
         fields = how, commands.name(), commands.name(), generator.choice(TEXTS)

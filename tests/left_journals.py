@@ -33,7 +33,7 @@ WIDE: list[tuple[str, Values]] = [
     *(("rename", ((b"wide", name), (b"wide", b"!" + name))) for name in WIDE_NAMES[-6:])]
 # A journal with more bytes becomes numbered files at the next change.
 FULL = 16 << 20
-# What is behind the records at least, for those that make room on a full disk.
+# What is after the records at least, for those that make room on a full disk.
 RESERVE = 64 << 10
 # How large a file is that is written again and again, and how many writes then are enough to fill a journal.
 LARGE, ENOUGH = LONGEST_DATA + 40_000, 170
@@ -53,7 +53,7 @@ def journal_of(place: Place) -> pathlib.Path:
 
 
 def size_of(journal: pathlib.Path) -> int:
-    """How many bytes its records have, by what they say of themselves. Behind them are zeros."""
+    """How many bytes its records have, by what they say of themselves. After them are zeros."""
     at = 0
     if journal.exists():
         with open(journal, "rb") as file:
@@ -158,7 +158,7 @@ def check_journal_beside_state(folder: pathlib.Path, commit: Commit, objects: pa
 
 
 def check_full_journal(folder: pathlib.Path, commit: Commit, objects: pathlib.Path, seed: int, more: int) -> None:
-    """One file is written until the journal is full, and so many times more. The next write is killed: it is the one
+    """One file is written until the journal is full, and this many times more. The next write is killed: it is the one
     that empties the journal, or it comes after that."""
     generator = random.Random(seed)
     place = Place(commit.root, objects, folder)

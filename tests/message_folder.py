@@ -1,5 +1,5 @@
 """The operations of `folder_operations.Folder` on a folder that `mountd fuse` shows, by messages that a socket hands
-over: those that Linux sends for these calls where it keeps nothing of what it was told.
+over: those that Linux sends for these calls if it keeps nothing of what it was told.
 
 Names are looked up one by one, and forgotten once a call is done. What Linux decides before it asks is decided here.
 """

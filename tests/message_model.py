@@ -19,7 +19,7 @@ from yakembi.tree_model import LONGEST_FILE, MOST_ENTRIES, Path, Refused, Unknow
 Place = tuple[int, bytes]
 
 LONGEST_NAME, LONGEST_PATH, MOST_NAMES = 255, 4_095, 256
-# So many bytes of all files together wait to be stored.
+# This many bytes of all files together wait to be stored.
 MOST_WAITING = 128 << 20
 # .. once one file's bytes wait with others between.
 MOST_BRIDGED = 64 << 20
@@ -48,7 +48,7 @@ MODES = {b"file": 0o100644, b"exec": 0o100755, b"link": 0o120777, b"dir": 0o4075
 
 
 class Shape(NamedTuple):
-    """An operation's number, the members of its struct, and how many names stand behind it."""
+    """An operation's number, the members of its struct, and how many names stand after it."""
 
     number: int
     members: str = ""
@@ -83,7 +83,7 @@ NAMING = ("lookup", "symlink", "mknod", "mkdir", "unlink", "rmdir", "rename", "r
 
 class Message(NamedTuple):
     """A message whose header says its length: what it asks for, unless nobody knows its operation, and the members of
-    its struct with what stands behind it, unless it is malformed."""
+    its struct with what stands after it, unless it is malformed."""
 
     unique: int
     node: int
@@ -95,7 +95,7 @@ class Message(NamedTuple):
 
 
 def spelled(word: str, unique: int, node: int, *fields: Any) -> bytes:
-    """The bytes of a message. What stands behind the struct's members are names, or bytes."""
+    """The bytes of a message. What stands after the struct's members are names, or bytes."""
     layout = LAYOUTS[word]
     count = len(layout.unpack(bytes(layout.size)))
     behind = b"".join(name + b"\0" * (SHAPES[word].names > 0) for name in fields[count:])
@@ -144,7 +144,7 @@ def answered(unique: int, error: str | None, body: bytes = b"") -> bytes:
 
 
 class Page(NamedTuple):
-    """What an open directory listed last: after so many others, the dots too, after which name, which names, each with
+    """What an open directory listed last: after how many others, the dots too, after which name, which names, with
     the word of its kind, and whether others come after them."""
 
     offset: int
@@ -176,11 +176,11 @@ class Extent(NamedTuple):
         return Extent(self.start, self.data[:at] + data + self.data[at + len(data):])
 
     def seen_length(self, size: int) -> int:
-        """How long its file is seen, which has so many bytes without it."""
+        """How long its file is seen, which has this many bytes without it."""
         return max(size, self.end()) if self.data and self.end() <= LONGEST_FILE else size
 
     def seen_part(self, offset: int, size: int, part: bytes) -> bytes:
-        """What is seen of so many bytes of its file, which are these without it, with zeros in a gap."""
+        """What is seen of this many bytes of its file, which are these without it, with zeros in a gap."""
         at, data = max(0, self.start - offset), self.data[max(0, offset - self.start):]
         if not data:
             return part[:size]
@@ -205,13 +205,13 @@ class FolderModel:
         self.given = {ROOT}
 
     def end(self) -> str | None:
-        """What is made of a session's end: all that waits is stored, or dropped where that is refused. The first
+        """What is made of a session's end: all that waits is stored, or dropped if that is refused. The first
         error."""
         errors = [error for node in sorted(self.waits) if (error := self.empty(node))]
         return errors[0] if errors else None
 
     def answer(self, data: bytes, told: bytes) -> bytes | None:
-        """The answer to a message, where that one was told; None, if there is to be none."""
+        """The answer to a message, if that one was told; None, if there is to be none."""
         message = read_message(data)
         if message is None:
             return None
@@ -237,7 +237,7 @@ class FolderModel:
     # ---- what waits to be stored
 
     def may_wait(self, node: int, offset: int, data: bytes) -> bool:
-        """Bytes wait where they begin in what waits for their node, or at its end, and where there is room for them."""
+        """Bytes wait if they begin in what waits for their node, or at its end, and if there is room for them."""
         held = self.waits.get(node, Extent(offset, b""))
         room = MOST_WAITING - sum(len(extent.data) for extent in self.waits.values())
         return held.start <= offset <= held.end() and offset + len(data) <= LONGEST_FILE and len(data) <= room
@@ -262,13 +262,13 @@ class FolderModel:
         return True
 
     def settle(self, node: int) -> None:
-        """What waits for a node is stored. Where that is refused, it waits still."""
+        """What waits for a node is stored. If that is refused, it waits still."""
         if node in self.waits:
             self.tree.patch(self.path(node), *self.waits[node])
             del self.waits[node]
 
     def empty(self, node: int) -> str | None:
-        """.. where that is refused, it is dropped: then the error."""
+        """.. if that is refused, it is dropped: then the error."""
         error = None
         try:
             self.settle(node)
@@ -335,7 +335,7 @@ class FolderModel:
         return int.from_bytes(self.told[at : at + 8], "little")
 
     def attributes(self, path: Path, at: int, node: int | None) -> bytes:
-        """A node's, where those were told from that byte on; of one that is told of first, if no number is named."""
+        """A node's, if those were told from that byte on; of one that is told of first, if no number is named."""
         _, kind, length, inode = self.tree.stat(path, self.number_told(at)).split()
         size = self.seen(self.fresh() if node is None else node).seen_length(int(length))
         told = self.told[at : at + ATTRIBUTES.size].ljust(ATTRIBUTES.size, b"\0")
@@ -495,7 +495,7 @@ class FolderModel:
         return list(page.names)[offset - page.offset - 1]
 
     def readdir(self, node: int, handle: int, offset: int, size: int, *_: int) -> bytes:
-        """What the last listing has, or a new one, which becomes the last, of up to so many names."""
+        """What the last listing has, or a new one, which becomes the last, of up to this many names."""
         page = self.pages.get(handle)
         names = page.kept(offset) if page else None
         if names is None:

@@ -237,7 +237,7 @@ def appending(top: pathlib.Path) -> Steps:
 
 
 def cut(top: pathlib.Path) -> Steps:
-    """truncate, ftruncate and O_TRUNC; gaps are zeros, also beyond a page; a read behind the end is none."""
+    """truncate, ftruncate and O_TRUNC; gaps are zeros, also beyond a page; a read after the end is none."""
     path = top / "cut"
     path.write_bytes(bytes(range(250)) * 80)
     os.truncate(path, 9_001)
@@ -416,7 +416,7 @@ def pieces(top: pathlib.Path) -> Steps:
 
 
 def kept_room(top: pathlib.Path) -> Steps:
-    """Room that is kept for a file behind its end, and holes that are made in it."""
+    """Room that is kept for a file after its end, and holes that are made in it."""
     path = top / "file"
     path.write_bytes(b"x" * 20_000)
     for name, mode in [("room behind the end", FALLOC_FL_KEEP_SIZE),
@@ -583,7 +583,7 @@ def counted(top: pathlib.Path) -> Steps:
 
 
 def listings(top: pathlib.Path) -> Steps:
-    """A long folder, whose names go and come while it is read; each that stays is told once."""
+    """A long folder, whose names go and come while it is read; each that stays is given once."""
     folder = top / "long"
     folder.mkdir()
     names = [f"{number:03}" + "x" * (number % 90) for number in range(200)]
@@ -632,7 +632,7 @@ def names_that_move_on(top: pathlib.Path) -> Steps:
 
 
 def kinds_in_rows(top: pathlib.Path) -> Steps:
-    """The kind that a listing's row tells, with no look at the node."""
+    """The kind that a listing's row has, with no look at the node."""
     (top / "file").touch()
     (top / "folder").mkdir()
     (top / "link").symlink_to("folder")

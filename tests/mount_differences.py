@@ -15,9 +15,9 @@ from programs import TOP
 
 LIBC = ctypes.CDLL(None, use_errno=True)
 PAGE = TOP / "docs" / "MOUNT-GIT.md"
-# Whatever the plain folder gives.
+# Whatever the plain directory gives.
 ANYTHING = object()
-# Any error in the plain folder's place.
+# Any error in the plain directory's place.
 A_SUCCESS = object()
 
 

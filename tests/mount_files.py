@@ -4,7 +4,7 @@
     tests/mount_files.py FOLDER PLAIN [SEED [OPERATIONS [LOG]]]
 
 Both folders are there and hold the same files, or none. Each operation gives in both the same, or the same error, and
-after each 50 all that open files, memory and names show is compared. Where something differs the last operations are
+after each 50 all that open files, memory and names show is compared. If something differs the last operations are
 told, and the status is 1. LOG is a file to which each operation is written before it is made.
 
 A program of its own, since a page that can't be read or written kills whoever touches it.
@@ -22,7 +22,7 @@ from typing import Any
 from mount_differences import tried
 
 PAGE = mmap.PAGESIZE
-# Files are seldom written or cut behind the first, and never behind the second.
+# Files are seldom written or cut after the first, and never after the second.
 LONG, LONGEST = 140_000, 2_500_000
 # Where pages, pieces of messages and whole messages end.
 BORDERS = [PAGE, 2 * PAGE, 65_536, 131_072, 262_144, 1 << 20]
@@ -34,7 +34,7 @@ TOLD = 25
 
 
 class View:
-    """A file's memory, with a descriptor that tells how long the file is."""
+    """A file's memory, with a descriptor that shows how long the file is."""
 
     def __init__(self, file: int, size: int, is_written: bool) -> None:
         self.file = os.dup(file)
@@ -55,7 +55,7 @@ class View:
 
 class Files:
     """Files of a folder, of which some are open under the numbers of places, and some are in memory under those of
-    views. An operation is a method, which gives what is compared; None where there is nothing to do it on."""
+    views. An operation is a method, which gives what is compared; None if there is nothing to do it on."""
 
     def __init__(self, top: pathlib.Path) -> None:
         self.top = top
@@ -127,7 +127,7 @@ class Files:
         return copied
 
     def send(self, place: int, other: int, offset: int, length: int) -> int | None:
-        """Of a file into itself it isn't said what comes, where the two parts overlap."""
+        """Of a file into itself it isn't said what comes, if the two parts overlap."""
         if os.path.sameopenfile(self.files[place], self.files[other]):
             return None
         sent = 0
@@ -182,7 +182,7 @@ class Files:
         return view.memory[min(offset, reach) : min(offset + length, reach)]
 
     def change(self, number: int, offset: int, data: bytes, is_synced: bool) -> int | None:
-        """Writes what fits into the file; what would lie behind its end isn't written."""
+        """Writes what fits into the file; what would lie after its end isn't written."""
         view = self.views[number]
         end = min(offset + len(data), len(view.memory), os.fstat(view.file).st_size)
         if not view.is_written or end <= offset:
@@ -220,7 +220,7 @@ class Files:
 
 
 class Chosen:
-    """Random operations, most of them on what is open, as the plain folder has it."""
+    """Random operations, most of them on what is open, as the plain directory has it."""
 
     def __init__(self, generator: random.Random, plain: Files) -> None:
         self.random = generator
@@ -281,7 +281,7 @@ class Chosen:
         ], [8, 12, 1])[0]
 
     def near(self, size: int) -> int:
-        """An offset: at the start, about the end, within, behind, or about a border of pages and messages."""
+        """An offset: at the start, about the end, within, after, or about a border of pages and messages."""
         reach = LONGEST if size > LONG or self.random.random() < 0.004 else LONG
         inner = self.random.randrange(size + 1)
         border = self.random.choice([border for border in BORDERS if border < reach])
@@ -321,7 +321,7 @@ def differences(folder: Files, plain: Files) -> Iterator[str]:
 
 
 def run(folder: Files, plain: Files, seed: int, operations: int, log: int | None) -> list[str]:
-    """Makes the operations until something differs, which is told behind the last ones."""
+    """Makes the operations until something differs, which is printed after the last ones."""
     chosen = Chosen(random.Random(seed), plain)
     lines: list[str] = []
     found = [f"at first, {line}" for line in differences(folder, plain)]

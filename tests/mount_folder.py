@@ -36,7 +36,7 @@ HELLO = {
 
 
 def missing() -> str | None:
-    """What this machine lacks for a mount through FUSE, in words; None where nothing is."""
+    """What this machine lacks for a mount through FUSE, in words; None if nothing is."""
     try:
         os.close(os.open("/dev/fuse", os.O_RDWR))
     except OSError as problem:
@@ -47,7 +47,7 @@ def missing() -> str | None:
 
 
 def mount_refused() -> str | None:
-    """Why nothing may be mounted here, as in some containers; None where it may. A mount that nobody serves tells."""
+    """Why nothing may be mounted here, as in some containers; None if it may. A mount that nobody serves shows it."""
     with tempfile.TemporaryDirectory() as folder:
         try:
             os.close(kernel.mount(folder))
@@ -143,7 +143,7 @@ def heed_signals() -> None:
 
 
 class MountGit:
-    """A run of `mount-git`, all of whose lines are kept in a file. It is killed where it takes too long."""
+    """A run of `mount-git`, all of whose lines are kept in a file. It is killed if it takes too long."""
 
     # Options of each.
     way: tuple[str, ...] = ()
@@ -173,7 +173,7 @@ class MountGit:
         return self.log.read_text(errors="replace").splitlines()
 
     def said(self) -> list[str]:
-        """The lines that tell of something that went wrong."""
+        """The lines that report something that went wrong."""
         return [line for line in told_anywhere(self.lines()) if line.startswith("mount-git: ")]
 
     def is_mounted(self) -> bool:
@@ -181,7 +181,7 @@ class MountGit:
         return f" {self.folder} " in pathlib.Path("/proc/self/mountinfo").read_text()
 
     def status(self) -> int | None:
-        """The status with which it ends by itself; None where it doesn't."""
+        """The status with which it ends by itself; None if it doesn't."""
         try:
             return self.process.wait(PATIENCE)
         except subprocess.TimeoutExpired:
@@ -263,7 +263,7 @@ def said_by(*words: object) -> Said:
 
 
 def told_anywhere(lines: list[str]) -> list[str]:
-    """The lines but for one that `mount-git` tells where an overlay isn't soon open, as on a machine that is busy."""
+    """The lines but for one that `mount-git` prints if an overlay isn't soon open, as on a machine that is busy."""
     return [line for line in lines if not line.endswith(mount_git.SLOW)]
 
 

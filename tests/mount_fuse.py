@@ -62,7 +62,7 @@ def run_tools(both: Both) -> None:
 
 
 def check_random_operations(folder: pathlib.Path, seed: int) -> None:
-    """Random operations through FUSE and on a plain folder have the same outcomes, and leave the same."""
+    """Random operations through FUSE and on a plain directory have the same outcomes, and leave the same."""
     repository = make_repository(folder)
     plain = checkout(repository, folder / "plain")
     with MountGit(repository, "HEAD", folder / "mounted") as mount:
@@ -152,8 +152,8 @@ def command_of(process: int) -> list[bytes]:
 
 
 def check_background(folder: pathlib.Path, repository: pathlib.Path) -> None:
-    """In the background a mount stays when who began it has ended, and tells into a file. `mount-git end` ends it, with
-    what was changed in the overlay, and not while it is in use unless by force; what can't be mounted is told at
+    """In the background a mount stays when who began it has ended, and writes to a file. `mount-git end` ends it, with
+    what was changed in the overlay, and not while it is in use unless by force; what can't be mounted is reported at
     once."""
     place, log, overlay = folder / "mounted", folder / "a log", folder / "overlay"
     words = MountGit.words("--overlay", overlay, "--background", log, repository, "HEAD", place)
@@ -337,7 +337,7 @@ def check_hiding(folder: pathlib.Path, repository: pathlib.Path) -> None:
 
 
 def check_damaged(repository: pathlib.Path, empty: pathlib.Path, overlay: pathlib.Path) -> None:
-    """An overlay whose root can't be read, and one of which a file is missing, which the command that is told mends."""
+    """An overlay whose root can't be read, and one of which a file is missing: the command that is named mends it."""
     root = git(repository, "rev-parse", "HEAD^{tree}")
     (overlay / "mount-git").write_text(f"{root} 17\n")
     words = MountGit.words(repository, "HEAD", empty, "--overlay", overlay)
@@ -413,7 +413,7 @@ def forget_all(repository: pathlib.Path) -> None:
 
 
 def check_signed_commit(folder: pathlib.Path) -> None:
-    """A signed commit's time is its own, also where Git's settings have it tell of signatures."""
+    """A signed commit's time is its own, also if Git's settings have it show signatures."""
     repository = make_repository(folder)
     tree = git(repository, "rev-parse", "HEAD^{tree}")
     who = "Test <test@example.org> 1000000000 +0000"
@@ -431,7 +431,7 @@ def check_signed_commit(folder: pathlib.Path) -> None:
 
 
 def check_empty_tree(folder: pathlib.Path) -> None:
-    """A commit of the empty tree, which Git knows without storing it, is an empty folder that takes files."""
+    """A commit of the empty tree, which Git knows without storing it, is an empty directory that takes files."""
     repository = make_repository(folder)
     commit = git(repository, "commit-tree", "-m", "empty", EMPTY_TREE)
     stored = git(repository, "cat-file", "--batch-all-objects", "--batch-check=%(objectname)").split()
@@ -445,7 +445,7 @@ def check_empty_tree(folder: pathlib.Path) -> None:
 
 def check_damaged_repository(folder: pathlib.Path) -> None:
     """A file whose object is lost, or damaged, is EIO, and a line names a lost one if lines were asked for; all else
-    goes on."""
+    is answered."""
     repository = make_repository(folder)
     with MountGit(repository, "HEAD", folder / "mounted", "--log") as mount:
         for name, content, lines in [("plain.txt", None, 1), ("run.sh", b"blob 6\0other\n", 0)]:
@@ -515,7 +515,7 @@ ROUND_TRIPS = "slow 0.1"
 
 def check_partial_clones(folder: pathlib.Path) -> None:
     """In a clone that lacks its objects a folder of 500 files is listed and searched by few questions. How long that
-    takes is told, beside the same where nothing is far."""
+    takes is printed, beside the same where nothing is far."""
     repository = make_far_repository(folder)
     with MountGit(repository, "HEAD", folder / "near") as mount:
         near = search(mount)

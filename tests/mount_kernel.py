@@ -1,4 +1,4 @@
-"""A commit that `mountd fuse` shows: calls of the system in it and in a plain folder, and what its ends leave."""
+"""A commit that `mountd fuse` shows: calls of the system in it and in a plain directory, and what its ends leave."""
 
 import collections
 import contextlib
@@ -52,7 +52,7 @@ def beside_plain(folder: pathlib.Path, repository: pathlib.Path) -> Iterator[tup
 
 
 def check_calls(folder: pathlib.Path, repository: pathlib.Path) -> None:
-    """Calls of the system, after the subjects of pjdfstest, say and leave what they do in a plain folder."""
+    """Calls of the system, after the subjects of pjdfstest, say and leave what they do in a plain directory."""
     with beside_plain(folder, repository) as (tops, differences):
         for call in CALLS:
             check_steps(call, [top / call.__name__ for top in tops], differences)
@@ -114,7 +114,7 @@ def check_random_files(folder: pathlib.Path, repository: pathlib.Path, seed: int
 
 
 def run_files(tops: list[pathlib.Path], seed: int, operations: int, log: pathlib.Path) -> None:
-    """So many operations in both folders, by a program of its own, which tells its last ones where something differs.
+    """This many operations in both folders, by a program of its own, which prints its last ones if something differs.
     If it dies, or stands still, they are in its log."""
     done = finished([sys.executable, FILES_PROGRAM, *tops, seed, operations, log], capture_output=True)
     if done.returncode != 0:
@@ -164,7 +164,7 @@ base.execute("BEGIN")
 base.executemany("INSERT INTO rows VALUES (?, ?)", [(-number, "never" * 50) for number in range(1, 100)])
 os._exit(7 if base.execute("PRAGMA journal_mode").fetchone()[0] == sys.argv[2] else 1)
 """
-# What is behind the name of a file in which something has to be taken back, and with what that begins.
+# What is after the name of a file in which something has to be taken back, and with what that begins.
 LEFT = {"-journal": bytes.fromhex("d9d505f920a163d7"), "-wal": bytes.fromhex("377f06")}
 
 
@@ -226,7 +226,7 @@ def check_killed_mountd(folder: pathlib.Path, repository: pathlib.Path) -> None:
 
 
 def check_lost_mountd(folder: pathlib.Path, repository: pathlib.Path) -> None:
-    """Where no mountd can be started again after a commit, who asks is told, and the mount ends with a line and status
+    """If no mountd can be started again after a commit, who asks is told, and the mount ends with a line and status
     1; the next mount has all that was answered."""
     overlay, program, is_lost = folder / "overlay", folder / "some mountd", folder / "is lost"
     program.write_text(f'#!/bin/sh\nif test "$1" = fuse -a -e "{is_lost}"\n'
@@ -245,7 +245,7 @@ def check_lost_mountd(folder: pathlib.Path, repository: pathlib.Path) -> None:
 
 
 def check_kills(folder: pathlib.Path, repository: pathlib.Path) -> None:
-    """A mount that was killed goes on where it was, at the same folder. Without `mount-git` it is shown on."""
+    """A mount that was killed continues where it was, at the same folder. Without `mount-git` it is shown on."""
     overlay = folder / "overlay"
     with MountGit(repository, "HEAD", folder / "killed", "--overlay", overlay) as mount:
         (mount.folder / "kept").write_text("kept")
@@ -438,14 +438,14 @@ CHANGES_UNDER_WAY = 40
 
 
 def told_places(folder: pathlib.Path) -> set[str]:
-    """The names in the folder that `mount-git changes` tells to be new."""
+    """The names in the folder that `mount-git changes` lists to be new."""
     status, lines = said_by(MOUNT_GIT, "changes", folder)
     check("changes under way: the status", status, 0)
     return {line.removeprefix("A\t") for line in lines if line.startswith("A\t")}
 
 
 def check_changes_under_way(folder: pathlib.Path, repository: pathlib.Path) -> None:
-    """While a file is moved to and fro, each `changes` tells it at one of its places, and never at both or neither; and
+    """While a file is moved to and fro, each `changes` lists it at one of its places, and never at both or neither; and
     the calls that wait meanwhile succeed."""
     places = [("here", "file"), ("there", "other")]
     for threads in (1, 4):

@@ -34,7 +34,7 @@ def wrong_by_tar(at: pathlib.Path, done: list[str], made: pathlib.Path) -> list[
 
 
 def wrong_by_make(at: pathlib.Path, done: list[str], made: pathlib.Path) -> list[str]:
-    """What was compiled is what was compiled elsewhere; and it goes on from there."""
+    """What was compiled is what was compiled elsewhere; and it continues from there."""
     if not done:
         return []
     wrong = [name for name in done if differ(at / name, made / "sources" / name)]
@@ -122,7 +122,7 @@ def check_kills_at_work(folder: pathlib.Path, repository: pathlib.Path, seed: in
 
 
 def wait_for(program: subprocess.Popen[bytes], done: pathlib.Path, count: int, seconds: float) -> list[str]:
-    """What it told, so many seconds after it told so many lines, or once it ended."""
+    """What it told, this many seconds after it told this many lines, or once it ended."""
     end = time.monotonic() + PATIENCE
     while done.read_text().count("\n") < count and program.poll() is None and time.monotonic() < end:
         time.sleep(0.001)

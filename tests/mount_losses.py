@@ -1,7 +1,7 @@
 """Losses of power under a folder that `mountd fuse` shows: what an `fsync` waited for is in the overlay that is left.
 
 The disk is made up by `losing_disk`, which watches what mountd waits for. It has that for sure, and anything else may
-be there or not: of names, those that came or went since, and of files, the bytes behind those that were waited for.
+be there or not: of names, those that came or went since, and of files, the bytes after those that were waited for.
 """
 
 import errno
@@ -23,14 +23,14 @@ from overlays import Place
 from programs import MOUNTD, SAMPLE_OBJECTS, SAMPLE_ROOT
 from yakembi.tree_model import Nodes, Path
 
-# More than the journal notes of one content, and so many names that a directory's listing is longer than that: what
+# More than the journal notes of one content, and this many names that a directory's listing is longer than that: what
 # changes in it is noted alone.
 LONG, SHORT = 150_000, 40_000
 # A content of over 8 MiB is stored without a copy.
 HUGE = 9 << 20
 WIDE = b"w" * 180
 NAMES = 760
-# Changes behind the fsync, and how many of them lie between two losses. They fill the journal several times.
+# Changes after the fsync, and how many of them lie between two losses. They fill the journal several times.
 CHANGES, BETWEEN = 700, 100
 
 

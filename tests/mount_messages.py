@@ -93,7 +93,7 @@ def show_sample() -> Kernel:
 
 
 def cut_short(length: int) -> bytes:
-    """A look-up whose header tells its length, of which only so many bytes come."""
+    """A look-up whose header has its length, of which only this many bytes come."""
     return spelled("lookup", 9, ROOT, b"test.txt")[:length]
 
 
@@ -168,7 +168,7 @@ AFTER_A_WRITE: list[tuple[str, tuple[Any, ...]]] = [
 
 
 def check_rows(folder: pathlib.Path) -> None:
-    """What is no message is passed over, each other one is answered by its rule, and all goes on as before."""
+    """What is no message is passed over, each other one is answered by its rule, and all continues as before."""
     with show_sample() as kernel:
         kernel.asked(STARTS)
         found = kernel.asked(LOOKUP)
@@ -237,7 +237,7 @@ def number_in(entry: bytes) -> int:
 
 
 def check_ends(folder: pathlib.Path) -> None:
-    """Each way in which no more messages come, and what is done where none can be received or sent."""
+    """Each way in which no more messages come, and what is done if none can be received or sent."""
     with show_sample() as kernel:
         check("ends: before the first message", kernel.end(), (0, b""))
     with show_sample() as kernel:
@@ -275,7 +275,7 @@ CLOSING = ["forget", "batch_forget", "release", "release", "releasedir", "flush"
 RARE = ["init", "destroy"]
 
 
-# A node, and the members of a struct with what stands behind it.
+# A node, and the members of a struct with what stands after it.
 Asked = tuple[int, tuple[Any, ...]]
 
 
@@ -374,7 +374,7 @@ class RandomMessages:
         kind = self.random.choice([0o100000, 0o100000, 0o100000, 0, 0o40000, 0o10000, 0o120000])
         return kind | self.random.choice([0o644, 0o755, 0o100, 0])
 
-    # ---- the members of structs, and what stands behind them
+    # ---- the members of structs, and what stands after them
 
     def plain(self, word: str) -> Asked:
         """Members that nobody looks at."""
@@ -440,7 +440,7 @@ class RandomMessages:
         return node, (directory, self.random.choice([0, 0, 1, 1, 2, 4, 3]), 0, *names)
 
     def read(self, _: str) -> Asked:
-        """Of those of a file for which something waits half begin in it, or shortly before or behind it."""
+        """Of those of a file for which something waits half begin in it, or shortly before or after it."""
         node = self.waiting() if self.random.random() < 0.3 else self.file()
         offset, held = self.offset(), self.model.waits.get(node)
         if held and self.random.random() < 0.5:
@@ -448,7 +448,7 @@ class RandomMessages:
         return node, (0, offset, self.size(), 0, 0, 0, 0)
 
     def write(self, _: str) -> Asked:
-        """Of those to a file for which something waits half begin in it or go on behind it."""
+        """Of those to a file for which something waits half begin in it or continue after it."""
         node, data = self.waiting() if self.random.random() < 0.3 else self.file(), self.data()
         offset, held = self.offset(), self.model.waits.get(node)
         if held and self.random.random() < 0.5:
@@ -476,7 +476,7 @@ class RandomMessages:
         return self.random.choice(known) if self.random.random() < 0.95 else self.random.randrange(99)
 
     def readdir(self, _: str) -> Asked:
-        """From the beginning, behind a dot or both, from where the last listing has been, or from where none was."""
+        """From the beginning, after a dot or both, from where the last listing has been, or from where none was."""
         handle = self.handle()
         page = self.model.pages.get(handle)
         told = range(page.offset, page.offset + len(page.names) + 2) if page else range(2)
@@ -541,7 +541,7 @@ class RandomMessages:
 
 
 def is_dear(data: bytes) -> bool:
-    """Whether a message may make a file of so many bytes that each store of it takes long."""
+    """Whether a message may make a file of this many bytes that each store of it takes long."""
     message = read_message(data)
     if message is None or message.fields is None:
         return False
@@ -609,7 +609,7 @@ FILES = {"file": b"first\n", "dir/a": b"1", "dir/d/e": b"2\n", "lost": LOST_BYTE
 
 
 def make_place(folder: pathlib.Path) -> tuple[Place, Commit, FolderModel]:
-    """A commit, of which the object of two files is lost, the folder of an overlay, and what is to be shown."""
+    """A commit, of which the object of two files is lost, the directory of an overlay, and what is to be shown."""
     commit, objects = make_commit(folder, FILES)
     lost = git(folder / "repository", "rev-parse", "HEAD:lost")
     (objects / lost[:2] / lost[2:]).unlink()
@@ -618,7 +618,7 @@ def make_place(folder: pathlib.Path) -> tuple[Place, Commit, FolderModel]:
 
 
 def found(nodes: Nodes) -> Nodes:
-    """The same where what is lost is the commit's."""
+    """The same if what is lost is the commit's."""
     return {path: (*node[:-1], LOST_BYTES) if node[-1] is None else node for path, node in nodes.items()}
 
 
@@ -627,7 +627,7 @@ def lost_again(nodes: Nodes) -> Nodes:
 
 
 def check_end(name: str, kernel: Kernel, place: Place, commit: Commit, model: FolderModel, kills: int = 0) -> None:
-    """It ends well, or tells what couldn't be stored, and the files of the overlay show the tree, with what waited in
+    """It ends well, or says what couldn't be stored, and the files of the overlay show the tree, with what waited in
     it."""
     ended, lost = kernel.end(), model.end()
     told = lost if lost in ("EIO", "ENOMEM", "ENAMETOOLONG", "ESTALE") else "Refused"
@@ -658,7 +658,7 @@ def check_random_messages(folder: pathlib.Path, seed: int, count: int) -> None:
 
 
 def tried(judged: Judged, messages: RandomMessages, count: int, ends: Sequence[str]) -> str | None:
-    """What goes wrong in a life of so many messages, if anything does. In the end all is looked at, or flushed, or more
+    """What goes wrong in a life of this many messages, if anything. In the end all is looked at, or flushed, or more
     is written."""
     number = 0
     try:
@@ -716,7 +716,7 @@ class Recorded(WholeTree):
 
 def check_kills(folder: pathlib.Path, seed: int, count: int) -> None:
     """It is killed while it answers one of random messages. What was answered is there, but of what was written only
-    what was flushed, synchronised or closed since, each where that was answered; of a message that wasn't answered
+    what was flushed, synchronised or closed since, each if that was answered; of a message that wasn't answered
     none of its changes is, or the first ones are. In every second life much waits, and mostly a message that has it
     stored is killed."""
     place, commit, model = make_place(folder)
@@ -743,7 +743,7 @@ def check_kills(folder: pathlib.Path, seed: int, count: int) -> None:
 
 
 def killed_at(kernel: Kernel, message: bytes, seconds: float) -> bytes:
-    """The answer, if it came before mountd was killed, so many seconds after the message was sent."""
+    """The answer, if it came before mountd was killed, this many seconds after the message was sent."""
     kernel.send(message)
     time.sleep(seconds)
     kernel.process.kill()
@@ -758,7 +758,7 @@ def killed_at(kernel: Kernel, message: bytes, seconds: float) -> bytes:
 
 
 def check_faults(folder: pathlib.Path) -> None:
-    """A lost object is EIO for who asks for it alone, and so is what can't be stored. All else goes on."""
+    """A lost object is EIO for who asks for it alone, and so is what can't be stored. All else is answered."""
     place, commit, model = make_place(folder)
     with showing(place) as kernel:
         judged = Judged(kernel, model)

@@ -1,7 +1,7 @@
 """Calls of the system on names of all kinds, after pjdfstest's subjects, in a mounted folder and in a plain one.
 
 Each case is a call and the path that it is given, among the same few names in both folders. What it gives, or the name
-of its error's number, and what it leaves are the plain folder's, but where `mount_differences` has it otherwise.
+of its error's number, and what it leaves are the plain directory's, but where `mount_differences` has it otherwise.
 """
 
 import contextlib
@@ -22,7 +22,7 @@ AT_FDCWD = -100
 RENAME_NOREPLACE, RENAME_EXCHANGE = 1, 2
 # What a path has at most is 4,095 bytes.
 STEPS = 2_045
-# A link that leads to a link, and so on: so many the system follows, and one more.
+# A link that leads to a link, and so on: this many the system follows, and one more.
 MOST_LINKS = 40
 CHAIN = "../../chain "
 NAMES = ["file", "empty", "full", "to file", "to full", "dangling", "loop", "none"]
@@ -51,7 +51,7 @@ def furnish(top: pathlib.Path) -> None:
 
 
 def furnish_chain(top: pathlib.Path) -> None:
-    """So many links, of which each leads to the one before, in the place of those that were there."""
+    """This many links, of which each leads to the one before, in the place of those that were there."""
     (top / "chain 0").write_text("chain")
     for number in range(1, MOST_LINKS + 2):
         (top / f"chain {number}").unlink(missing_ok=True)

@@ -17,9 +17,9 @@ from message_model import ROOT, spelled
 from mount_messages import LOOKUP, SHOW_SAMPLE, STARTS, Kernel
 from tracing import Calls, Info
 
-# The number of the call (x86-64), the descriptor by which messages come, and the status where too few were read.
+# The number of the call (x86-64), the descriptor by which messages come, and the status if too few were read.
 READ, MESSAGES, TOO_FEW = 0, 0, 99
-# The kernel says that nothing is mounted any more, by the second where a message was on its way to who reads.
+# The kernel says that nothing is mounted any more, by the second if a message was on its way to who reads.
 ENDS = ["ENODEV", "ECONNABORTED"]
 # There is no message: it was withdrawn, a signal came, or none is there yet.
 PASSED_OVER = ["ENOENT", "EINTR", "EAGAIN"]
@@ -58,7 +58,7 @@ def failing(error: str, count: int, *more: object) -> Kernel:
 
 
 def check_receiving(folder: pathlib.Path) -> None:
-    """Each error of a read is the end, is passed over, or is told; and the overlay is closed."""
+    """Each error of a read is the end, is passed over, or is reported; and the overlay is closed."""
     for error, wanted in [*[(error, WELL) for error in ENDS], *[(error, FAULT) for error in FAULTS]]:
         with failing(error, 1) as kernel:
             check(f"{error} before the first message", (status_of(kernel.process), kernel.end()), (wanted[0], wanted))

@@ -20,9 +20,9 @@ from yakembi.tree_model import LONGEST_DATA, MOST_ENTRIES
 
 # ---- by messages
 
-# Writes to a file of 6 bytes: at its beginning, inside, over its end, at the end of what waits, and behind gaps.
+# Writes to a file of 6 bytes: at its beginning, inside, over its end, at the end of what waits, and after gaps.
 WRITES = [(0, b"FI"), (2, b"R"), (3, b"ST and more"), (14, b"!"), (1, b"i"), (20, b"far"), (19, b"so ")]
-# A window of each size begins at each place before, in and behind them.
+# A window of each size begins at each place before, in and after them.
 PLACES, SIZES = range(35), [0, 1, 2, 5, 40, LONGEST_DATA]
 
 
@@ -68,7 +68,7 @@ def check_seen(folder: pathlib.Path) -> None:
 
 
 def names_in(answer: bytes) -> dict[bytes, int]:
-    """The names of an answer's rows, and from which offset it is read on behind each."""
+    """The names of an answer's rows, and from which offset it is read on after each."""
     told, names = answer[ANSWER.size:], {}
     while told:
         _, offset, length, _ = ROW.unpack_from(told)
@@ -78,7 +78,7 @@ def names_in(answer: bytes) -> dict[bytes, int]:
 
 
 def told_moving(judged: Judged, directory: int, most: int) -> list[bytes]:
-    """The names of a directory that is read in pieces, of which each is moved behind all others once it is told; so
+    """The names of a directory that is read in pieces, of which each is moved after all others once it is given; so
     many at most."""
     handle, *_ = OPENED.unpack(judged.ask(spelled("opendir", 5, directory, 0, 0))[ANSWER.size:])
     told: list[bytes] = []
@@ -97,8 +97,8 @@ def told_moving(judged: Judged, directory: int, most: int) -> list[bytes]:
 
 
 def check_moving(folder: pathlib.Path) -> None:
-    """Names that move on while a directory is read are told once, if there are so few that one listing has them; of
-    others those that moved are told again, and then it ends."""
+    """Names that move on while a directory is read are given once, if there are so few that one listing has them; of
+    others those that moved are given again, and then it ends."""
     place, commit, model = make_place(folder)
     with showing(place) as kernel:
         judged = Judged(kernel, model)
@@ -123,7 +123,7 @@ def check_moving(folder: pathlib.Path) -> None:
 
 
 def check_moved_on(folder: pathlib.Path, repository: pathlib.Path) -> None:
-    """A program that renames each name that it reads in a directory to one behind all others renames each once, and
+    """A program that renames each name that it reads in a directory to one after all others renames each once, and
     comes to the end."""
     with MountGit(repository, "HEAD", folder / "mounted") as mount:
         directory = mount.folder / "directory"

@@ -84,7 +84,7 @@ def check_shell(folder: pathlib.Path) -> None:
 
 
 def check_prompt(folder: pathlib.Path) -> None:
-    """The prompt tells the folder, also one whose name is no text."""
+    """The prompt shows the folder, also one whose name is no text."""
     words = [MOUNTD, "stdio", "--root", SAMPLE_ROOT, "--objects", SAMPLE_OBJECTS]
     status, shown = typed(words, b"mkdir \xff", b"cd \xff", b"exit")
     check("shell: a prompt that is no text", (status, b"\n/\xff> " in shown), (0, True))
@@ -134,7 +134,7 @@ def check_changes(mount: Sequence[object], folder: pathlib.Path) -> None:
 
 
 def check_refusals(mount: Sequence[object]) -> None:
-    """Each is a line with the command in it, and no more; what follows goes on."""
+    """Each is a line with the command in it, and no more; what follows is run."""
     commands = [b"cat nothing", b"ls nothing/below", b"cat dir", b"cat link", b"mkdir dir", b"rmdir many", b"rm many",
                 b"cd plain.txt", b"mv dir dir/below", b"rmdir /", b"mkdir " + b"n" * 256, b"put /no/such/file",
                 b"ln plain.txt other", b"cat", b"mv one", b"unknown", b"cat 'open", b"chmod 755 plain.txt"]

@@ -56,7 +56,7 @@ def in_thread(call: Callable[[], object], seen: list[object]) -> threading.Threa
 
 
 def check_slow_object(folder: pathlib.Path) -> None:
-    """While a server of objects stands still, those that need none of it go on, and then the others do."""
+    """While a server of objects stands still, those that need none of it are answered, and then the others do."""
     repository = make_repository(folder)
     with Shown(folder, repository) as shown:
         names = sorted(os.listdir(shown.top))

@@ -197,7 +197,7 @@ BETWEEN = {"ENOENT", "ENOTCONN", "ECONNABORTED", "ENODEV"}
 
 
 def check_commits_under_way(folder: pathlib.Path, repository: pathlib.Path) -> None:
-    """Users go on beside commits: they wait, or find that the folder isn't there for a moment, and none of what they
+    """Users work on beside commits: they wait, or find that the folder isn't there for a moment, and none of what they
     closed is lost."""
     with MountGit(repository, "HEAD", folder / "mounted", "--overlay", folder / "overlay") as mount:
         branch, before = git(repository, "symbolic-ref", "HEAD"), git(repository, "rev-parse", "HEAD")
@@ -259,8 +259,8 @@ LIMIT = 4 << 20
 
 
 def check_full_overlay(folder: pathlib.Path, repository: pathlib.Path) -> None:
-    """Where the overlay's disk is full, a close and a change are ENOSPC, as in a plain directory on it; what was closed
-    before is there, and with room all goes on."""
+    """If the overlay's disk is full, a close and a change are ENOSPC, as in a plain directory on it; what was closed
+    before is there, and with room all is done."""
     data = random.Random(1).randbytes(PIECE)
     with small_disk(folder / "small", DISK) as disk:
         if disk is None:
@@ -293,7 +293,7 @@ def check_full_overlay(folder: pathlib.Path, repository: pathlib.Path) -> None:
 
 
 def check_full_journal(folder: pathlib.Path, repository: pathlib.Path) -> None:
-    """Where small changes have filled the overlay's disk each removal goes, though nobody makes room elsewhere; and
+    """If small changes have filled the overlay's disk each removal goes, though nobody makes room elsewhere; and
     once most is removed there is room again."""
     data = random.Random(2).randbytes(NOTED)
     with small_disk(folder / "small", DISK) as disk:
@@ -325,7 +325,7 @@ def append(path: pathlib.Path, data: bytes) -> int:
 
 
 def check_cut_on_full_disk(folder: pathlib.Path, repository: pathlib.Path) -> None:
-    """Where the overlay's disk is full a large file can be emptied, and its room is used then, though what was noted
+    """If the overlay's disk is full a large file can be emptied, and its room is used then, though what was noted
     besides takes more than the reserve."""
     data = random.Random(3).randbytes(PIECE)
     with small_disk(folder / "small", DISK) as disk:

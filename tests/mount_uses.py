@@ -27,10 +27,10 @@ from yakembi.tree_model import Path
 USERS = 8
 # Of a turn of each user.
 CHANGES, READS = 3, 5
-# `mountd fuse` keeps when it changed a node, in so many bytes at most, also once that is forgotten: here each turn's
+# `mountd fuse` keeps when it changed a node, in this many bytes at most, also once that is forgotten: here each turn's
 # nodes are those of the folder, for two calls, and of the file, for two.
 BYTES_OF_A_TIME, NODES_OF_A_TURN = 100, 4
-# The overlay's journal has a place of so many bytes at most for each file that it speaks of, also of one that was
+# The overlay's journal has a place of this many bytes at most for each file that it speaks of, also of one that was
 # removed, until it is emptied at 16 MiB: each turn makes a file.
 BYTES_OF_A_PLACE = 100
 # How long a kernel waits here for an answer that isn't to come, in seconds.
@@ -50,11 +50,11 @@ def over_git(repository: pathlib.Path, overlay: pathlib.Path) -> Iterator[tuple[
             yield kernel, server
 
 
-# ---- beside a plain folder
+# ---- beside a plain directory
 
 
 def check_operations(folder: pathlib.Path, seed: int) -> None:
-    """Random operations by messages and on a plain folder have the same outcomes, and leave the same."""
+    """Random operations by messages and on a plain directory have the same outcomes, and leave the same."""
     repository = make_repository(folder)
     plain = Folder(checkout(repository, folder / "plain"))
     with over_git(repository, folder / "overlay") as (kernel, _):
@@ -267,7 +267,7 @@ def turn_of(place: MessageFolder, home: bytes, turn: int) -> Iterator[bytes | No
 
 
 def check_long_folder(folder: pathlib.Path, requests: int) -> None:
-    """Users ask so many requests of a folder, call by call in turn. They take no more memory than the first third, but
+    """Users ask this many requests of a folder, call by call in turn. They take no more memory than the first third but
     for the times of what they change, and its places in the journal."""
     homes = [b"%d" % number for number in range(USERS)]
     turns = requests // (USERS * (CHANGES + READS))

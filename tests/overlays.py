@@ -1,4 +1,4 @@
-"""A commit as Git has it, runs of the program over an overlay's folder, and what the files of a closed one show."""
+"""A commit as Git has it, runs of the program over an overlay's directory, and what the files of a closed one show."""
 
 import pathlib
 import subprocess
@@ -66,7 +66,7 @@ def make_commit(folder: pathlib.Path, files: dict[str, bytes]) -> tuple[Commit, 
 
 
 def contents_of(repository: pathlib.Path, ids: Iterable[str]) -> dict[str, bytes]:
-    """The contents of objects, each behind its line in one output of Git's."""
+    """The contents of objects, each after its line in one output of Git's."""
     wanted = sorted(ids)
     asked = "".join(f"{object_id}\n" for object_id in wanted).encode()
     output = git(repository, "cat-file", "--batch", data=asked, text=False)
@@ -83,7 +83,7 @@ def contents_of(repository: pathlib.Path, ids: Iterable[str]) -> dict[str, bytes
 
 
 class Place:
-    """A commit with its objects, in a folder or with `--git` in a repository, and the folder of an overlay."""
+    """A commit with its objects, in a folder or with `--git` in a repository, and the directory of an overlay."""
 
     def __init__(self, root: str, objects: pathlib.Path, overlay: pathlib.Path, option: str = "--objects") -> None:
         self.root = root
@@ -177,7 +177,7 @@ def replied(tree: WholeTree, requests: Iterable[tuple[str, Values]]) -> list[tup
 
 
 def as_described(name: str, read: Callable[..., Read], *words: Any) -> Read | None:
-    """What is read of files; None where one isn't as described."""
+    """What is read of files; None if one isn't as described."""
     try:
         return read(*words)
     except Damaged as damage:

@@ -16,7 +16,7 @@ from helpers.git import blob_id
 
 COMMITTER = "committer Test <test@example.org> {} +0000\n"
 LINES = 40
-# How many packs there are where there are many.
+# How many packs there are if there are many.
 PACKS = 40
 WORDS = {1: b"commit", 2: b"tree", 3: b"blob", 4: b"tag"}
 BLOB, OFFSET_DELTA, ID_DELTA = 3, 6, 7
@@ -35,7 +35,7 @@ def data(content: bytes) -> bytes:
 
 
 def make_history(repository: pathlib.Path, commits: int, depth: int = 50) -> None:
-    """A repository with so many commits, a tag, and objects of all kinds and sizes, and chains of so many deltas."""
+    """A repository with this many commits, a tag, objects of all kinds and sizes, and chains of this many deltas."""
     words = random.Random(commits)
     files = {"empty": b"", "one byte": b"x", "random": words.randbytes(300_000), "long": b"a long file\n" * 200_000,
              **{f"folder/{number:03}": words.randbytes(words.randrange(500)) for number in range(100)}}
@@ -147,7 +147,7 @@ def make_alternates(repository: pathlib.Path) -> None:
         for path in packs_of(repository).glob(pack.stem + ".*"):
             path.rename(objects / "pack" / path.name)
     (first / "info/alternates").write_text(f"# the next\n{second}\n")
-    # A path is meant from the folder of objects that names it.
+    # A path is meant from the directory of objects that names it.
     (second / "info/alternates").write_text("../third\n")
     loose = repository / "loose"
     git(repository, "init", "-q", "--bare", str(loose))
@@ -172,7 +172,7 @@ def make_deltas_by_id(repository: pathlib.Path) -> None:
 
 
 class Way(NamedTuple):
-    """A way to store a history of so many commits, how many deltas its longest chain has, where that is known, and
+    """A way to store a history of this many commits, how many deltas its longest chain has, if that is known, and
     whether each pack has an index of its own, without which Git reads none."""
 
     name: str

@@ -1,6 +1,6 @@
 """The fields of a line, spelled by the client library.
 
-The texts of replies are the tests' own, so that what the program tells is compared with what nobody else reads.
+The texts of replies are the tests' own, so that what the program prints is compared with what nobody else reads.
 """
 
 import paths  # before what stands in scripts/

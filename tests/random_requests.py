@@ -17,7 +17,7 @@ HOME_NODES = 30
 
 
 class RandomRequests:
-    """Random requests, most of them about what is there. Past so many nodes they only take away and move."""
+    """Random requests, most of them about what is there. Past this many nodes they only take away and move."""
 
     def __init__(self, generator: random.Random, tree: WholeTree, names: Sequence[bytes], most_nodes: int) -> None:
         self.random = generator
@@ -48,7 +48,7 @@ class RandomRequests:
         return self.random.randbytes(longest + 1 if rare else self.random.choice([0, 1, 3, 60, 700]))
 
     def offset(self) -> int:
-        """Where a read or a write begins: where a file may end, or so far out that nothing fits behind it."""
+        """Where a read or a write begins: where a file may end, or so far out that nothing fits after it."""
         return self.random.choice([0, 1, self.random.randrange(3_000), LONGEST_FILE, 2**64 - LONGEST_DATA - 2])
 
     def one(self, words: Sequence[str] = WORDS) -> tuple[str, Values]:
@@ -127,7 +127,7 @@ def line_of(word: str, fields: Values) -> bytes:
 
 
 def pages(content: bytes | None) -> range:
-    """Where the pages of a content begin. The last one is short, so that it tells the end; a lost content has one."""
+    """Where the pages of a content begin. The last one is short, so that it shows the end; a lost content has one."""
     return range(0, len(content or b"") + 1, LONGEST_DATA)
 
 

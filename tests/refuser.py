@@ -28,7 +28,7 @@ void *realloc(void *old, size_t size) { return refuses() ? NULL : __libc_realloc
 
 
 def make_refuser(folder: pathlib.Path) -> pathlib.Path | None:
-    """The library; None where there is no C compiler."""
+    """The library; None if there is no C compiler."""
     library = folder / "refuser.so"
     words = ["cc", "-shared", "-fPIC", "-o", str(library), "-x", "c", "-"]
     try:

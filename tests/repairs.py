@@ -238,7 +238,7 @@ def check_refused(folder: pathlib.Path) -> None:
 
 
 def check_ends(folder: pathlib.Path) -> None:
-    """No folder is made, one that is open is refused, and what can't be told is a fault behind what was done."""
+    """No folder is made, one that is open is refused, and what can't be said is a fault after what was done."""
     check("no folder", repair(SAMPLE_ROOT, folder / "nowhere"), (3, b"", b"mountd: open Device\n"))
     check("none is made", (folder / "nowhere").exists(), False)
     (folder / "empty").mkdir()

@@ -44,7 +44,7 @@ class Round:
         self.idle.append(client)
 
     def run(self, count: int, words: Sequence[str]) -> list[Asked]:
-        """So many requests; at times one is sent only when another's reply came."""
+        """This many requests; at times one is sent only when another's reply came."""
         chance = self.random.choice([0, 0.2, 0.5])
         for _ in range(count):
             while len(self.waiting) == MOST_TOGETHER or self.waiting and self.random.random() < chance:

@@ -91,7 +91,7 @@ def quoted(names: tuple[bytes, ...]) -> bytes:
 
 
 def history() -> list[str]:
-    """The commits of this project, where its files lie in a repository."""
+    """The commits of this project, if its files lie in a repository."""
     try:
         return git(TOP, "rev-list", "HEAD").split()
     except subprocess.CalledProcessError:

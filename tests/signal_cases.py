@@ -23,7 +23,7 @@ def tell(word):
     print(word, flush=True)
 ending.exit_at(*ending.SIGNALS)
 """
-# It waits, and lets go what it holds, which takes as long as its input is open.
+# It waits, and releases what it holds, which takes as long as its input is open.
 LETS_GO = BEGIN + """
 try:
     tell("begun")
@@ -44,7 +44,7 @@ tell("lost")
 with ending.calls(lambda: tell("ends")):
     tell("mounts")
 """
-# It shows something until its input ends, and goes then, which takes a while. At each byte it tells that it goes on.
+# It shows something until its input ends, and goes then, which takes a while. At each byte it says that it still runs.
 SHOWS = BEGIN + """
 with ending.calls(lambda: tell("ends")):
     tell("begun")
@@ -104,7 +104,7 @@ class Signals(cases.Case):
         self.assertEqual((run.stdout.read().splitlines(), run.wait(PATIENCE)), (list(lines), status))
 
     def test_second(self) -> None:
-        """What was begun to be let go by one signal is let go, whatever else comes."""
+        """What was begun to be released by one signal is released, whatever else comes."""
         for first in ending.SIGNALS:
             with self.run_of(LETS_GO) as run:
                 run.send_signal(first)
@@ -120,8 +120,8 @@ class Signals(cases.Case):
             self.ends(run, 1, "lost")
 
     def test_shown(self) -> None:
-        """What is shown ends by each signal, as often as one comes; behind it none does anything, and the status is
-        that of the end, also where one comes as the program goes."""
+        """What is shown ends by each signal, as often as one comes; after it none does anything, and the status is
+        that of the end, also if one comes as the program goes."""
         with self.run_of(SHOWS) as run:
             for number in (*ending.SIGNALS, *ending.SIGNALS):
                 run.send_signal(number)

@@ -1,4 +1,4 @@
-"""Changes that are told of an overlay, what Git says of the same two trees, and what it has in a tree."""
+"""Changes that are listed of an overlay, what Git says of the same two trees, and what it has in a tree."""
 
 import functools
 import pathlib
@@ -45,7 +45,7 @@ def in_order(found: Iterable[Change]) -> bool:
 
 
 def letter_of(old: tuple[bytes, str] | None, new: tuple[bytes, str] | None) -> str | None:
-    """How Git tells that change of a path that isn't a directory."""
+    """How Git lists that change of a path that isn't a directory."""
     if old is None or new is None:
         return None if old == new else "A" if old is None else "D"
     is_same_sort = old[0] == new[0] or {old[0], new[0]} <= PLAIN
@@ -53,7 +53,7 @@ def letter_of(old: tuple[bytes, str] | None, new: tuple[bytes, str] | None) -> s
 
 
 def letters_of(lines: Iterable[bytes], old: Rows, new: Rows) -> Letters:
-    """The letters of the paths that aren't directories. Below what is told whole, they are those of the two trees; and
+    """The letters of paths that aren't directories. Below what is listed whole, they are those of the two trees; and
     what a snapshot left out isn't in the new one."""
     found = {}
     for change in changes_in(iter(lines)):
@@ -73,7 +73,7 @@ def letters_of(lines: Iterable[bytes], old: Rows, new: Rows) -> Letters:
 
 
 def letters_in(repository: pathlib.Path, old: str, new: str) -> Letters:
-    """What `git diff-tree` tells of the two trees."""
+    """What `git diff-tree` lists of the two trees."""
     output = git(repository, "diff-tree", "-r", "-z", "--no-renames", "--name-status", old, new, text=False)
     fields = output.split(b"\0")[:-1]
     return {path: letter.decode() for letter, path in zip(fields[::2], fields[1::2])}

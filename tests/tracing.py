@@ -49,12 +49,12 @@ class Calls:
     """The calls of a program, some of which fail."""
 
     def __init__(self) -> None:
-        # Each task's call that goes on, and what it returns where it is to fail.
+        # Each task's call that is under way, and what it returns if it is to fail.
         self.calls: dict[int, Info] = {}
         self.failing: dict[int, int] = {}
 
     def stopped(self, task: int) -> None:
-        """The task stands before a call or behind it."""
+        """The task stands before a call or after it."""
         info = Info()
         ptrace(CALL_INFO, task, ctypes.sizeof(info), ctypes.addressof(info))
         if info.op == ENTRY:
@@ -71,7 +71,7 @@ class Calls:
                 self.done(task, call, returned)
 
     def error_of(self, call: Info) -> int:
-        """The error with which that call is to fail, of which nothing is done then; 0 where it isn't."""
+        """The error with which that call is to fail, of which nothing is done then; 0 if it isn't."""
         return 0
 
     def done(self, task: int, call: Info, returned: int) -> None:
@@ -101,7 +101,7 @@ def watch(calls: Calls, program: int) -> int:
 
 
 def started(program: list[str]) -> int:
-    """The program, which goes on to its first call and can be watched from there."""
+    """The program, which runs to its first call and can be watched from there."""
     child = os.fork()
     if child == 0:
         ptrace(TRACE_ME, 0)

@@ -26,7 +26,7 @@ class Client:
         self.heard = bytearray()
 
     def send(self, *lines: bytes) -> None:
-        """Sends the lines. A session that ended takes none, which its missing replies tell."""
+        """Sends the lines. A session that ended takes none, which its missing replies show."""
         with contextlib.suppress(OSError):
             self.socket.sendall(b"".join(line + b"\n" for line in lines))
 
@@ -72,7 +72,7 @@ def start_serve(*words: object, before: Sequence[object] = (), **more: Any) -> P
 
 
 class Service:
-    """A run of `mountd serve` that takes so many seconds at most, and its clients."""
+    """A run of `mountd serve` that takes this many seconds at most, and its clients."""
 
     def __init__(self, root: str, source: Sequence[object], *more: object, at: Sequence[object],
                  before: Sequence[object] = (), longest: float = LONGEST_RUN) -> None:
@@ -93,7 +93,7 @@ class Service:
         return [self.client() for _ in range(count)]
 
     def end(self, *clients: Client) -> Ending:
-        """Closes these clients, and tells how the program ended, and what it printed behind its first line."""
+        """Closes these clients, and says how the program ended, and what it printed after its first line."""
         for client in clients:
             client.close()
         return ending_of(self.process)

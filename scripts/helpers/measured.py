@@ -1,4 +1,4 @@
-"""Tables in Markdown for docs/measured/, and the line above them that says when and where they were made."""
+"""Tables in Markdown for docs/measured/, and the line above them: when, where and beside what they were made."""
 
 import datetime
 import os
@@ -10,6 +10,9 @@ from collections.abc import Iterable, Iterator
 from helpers.programs import TOP
 
 GIB = 1 << 20
+TICKS = os.sysconf("SC_CLK_TCK")
+# Columns of /proc/stat's first row, after its name; the host gave what was stolen to other machines.
+IDLE, WAITING, STOLEN, COLUMNS = 3, 4, 7, 8
 
 
 def table(heads: Iterable[str], rows: Iterable[Iterable[object]]) -> Iterator[str]:
@@ -66,6 +69,30 @@ def toolchain() -> str:
 def where_and_when() -> str:
     """The date, the commit, the toolchain and the machine, in a line."""
     return f"{datetime.date.today()}, {commit()}, {toolchain()}, {machine()}"
+
+
+class Others:
+    """What other processes use of all processors while this one and those that it starts and awaits measure."""
+
+    def __init__(self) -> None:
+        self.start = self.ticks()
+
+    @staticmethod
+    def ticks() -> tuple[int, float]:
+        """All ticks of all processors until now, and those of them that other processes used."""
+        row = pathlib.Path("/proc/stat").read_text().split("\n", 1)[0].split()[1:]
+        ticks = [int(word) for word in row[:COLUMNS]]
+        used = sum(ticks) - ticks[IDLE] - ticks[WAITING] - ticks[STOLEN]
+        return sum(ticks), used - sum(os.times()[:4]) * TICKS
+
+    def share(self) -> float:
+        """What they used since this began, of the processors' time."""
+        ticks, used = (now - then for now, then in zip(self.ticks(), self.start))
+        return max(used, 0.0) / max(ticks, 1)
+
+    def sentence(self, who: str = "") -> str:
+        """What ran beside it, if somebody says who that was, and what share of the processors' time was theirs."""
+        return f"Beside it {who or 'other processes'} used {self.share():.0%} of the processors' time."
 
 
 # ---- blocks of a page

@@ -13,7 +13,7 @@ from yakembi.addresses import Address, AddressServer, ConnectionHandler, socket_
 LONGEST_HELD = 25
 
 
-# What is answered to an id, and whether the connection goes on.
+# What is answered to an id, and whether the connection continues.
 Answer = Callable[[str], tuple[bytes, bool]]
 
 
@@ -55,7 +55,7 @@ class Connection(ConnectionHandler):
 
 
 class Stored:
-    """A folder of objects to be served: it notes what it is asked for, and may fail or wait before it answers."""
+    """A directory of objects to be served: it notes what it is asked for, and may fail or wait before it answers."""
 
     def __init__(self, folder: pathlib.Path, delay: float = 0, fails_each: int | None = None) -> None:
         self.folder = folder

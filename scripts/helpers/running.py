@@ -102,7 +102,7 @@ def ending_of(process: Process) -> Ending:
 
 @contextlib.contextmanager
 def watched(process: Process) -> Iterator[Process]:
-    """A process that is killed where the block takes too long, so that who waits for a line of it is told its end."""
+    """A process that is killed if the block takes too long, so that who waits for a line of it learns its end."""
     alarm = threading.Timer(PATIENCE, kill_hung, [process])
     alarm.daemon = True
     alarm.start()

@@ -1,7 +1,7 @@
 """Where programs of one machine meet: a port of 127.0.0.1, or the path of a Unix socket.
 
 A socket's file lets its user alone connect. It goes with its server; what a killed one left, the next removes. Beside
-it lies a file with `.lock` behind its name, which `mountd` locks too, so that one server at a time has the path.
+it lies a file with `.lock` after its name, which `mountd` locks too, so that one server at a time has the path.
 """
 
 import contextlib
@@ -67,7 +67,7 @@ def is_text(path: str) -> bool:
 
 
 def temporary_place() -> str:
-    """The folder for temporary files, or /tmp where mountd can't be told its path."""
+    """The directory for temporary files, or /tmp if mountd can't be given its path."""
     place = tempfile.gettempdir()
     return place if is_text(place) else "/tmp"
 
@@ -82,7 +82,7 @@ def socket_path() -> Iterator[str]:
 
 
 def remove_left(path: str) -> None:
-    """Removes a socket at which nobody listens. An OSError, EADDRINUSE, where somebody does."""
+    """Removes a socket at which nobody listens. An OSError, EADDRINUSE, if somebody does."""
     if not is_socket(path):
         return
     try:
@@ -98,7 +98,7 @@ def in_use(path: str) -> OSError:
 
 
 def held(path: str) -> int:
-    """The lock of a path, without a socket that a killed server left there. EADDRINUSE, where another has it."""
+    """The lock of a path, without a socket that a killed server left there. EADDRINUSE, if another has it."""
     lock = os.open(path + ".lock", os.O_RDWR | os.O_CREAT | os.O_CLOEXEC, 0o600)
     try:
         fcntl.flock(lock, fcntl.LOCK_EX | fcntl.LOCK_NB)

@@ -11,7 +11,7 @@ from typing import Any, NoReturn
 from yakembi import ending
 from yakembi.git import Refusal
 
-# What comes behind the lines once all is well.
+# What comes after the lines once all is well.
 WELL = b"\0"
 # By these who began it is ended before all is well.
 INTERRUPTS = (signal.SIGINT, signal.SIGTERM, signal.SIGHUP, signal.SIGQUIT)
@@ -36,7 +36,7 @@ class Both(io.RawIOBase):
 
 
 def begin(log: str) -> Callable[[], None]:
-    """Goes on as another process, whose lines go to the end of the file. What is given is to be called once all is
+    """Runs on as another process, whose lines go to the end of the file. What is given is to be called once all is
     well: then the process that was started ends with status 0, and else with that of the other one. It prints the lines
     that came until then.
     """
@@ -60,7 +60,7 @@ def begin(log: str) -> Callable[[], None]:
 
 
 def open_standard() -> None:
-    """Nothing else gets the numbers of standard input, output and error, where these are closed."""
+    """Nothing else gets the numbers of standard input, output and error, if these are closed."""
     while (descriptor := os.open(os.devnull, os.O_RDWR)) <= 2:
         pass
     os.close(descriptor)
@@ -75,7 +75,7 @@ def close_others(*kept: int) -> None:
 
 
 def tell_that_all_is_well(both: Both, pipe: int) -> None:
-    """A Refusal, where who began it is gone: they wanted no mount any more."""
+    """A Refusal, if who began it is gone: they wanted no mount any more."""
     both.places.remove(pipe)
     try:
         os.write(pipe, WELL)

@@ -6,12 +6,12 @@ RECORD is a folder of what clients sent and got: for each a file NAME.sent with 
 replies, as two `tee`s write them or `record` of yakembi.client, which writes NAME.times beside them. The tree is that
 of the revision, or what the overlay DIR shows over it, as it was before the first request.
 
-A `stat` tells one inode number of a thing, wherever that is moved to, and of nothing else after it. That is the one
+A `stat` gives one inode number of a thing, wherever that is moved to, and of nothing else after it. That is the one
 that the files of DIR have, or else any that isn't spent by then: below what they give next, or told before.
 
-The order keeps each client's own; where there are times, also that of requests of which one was answered before the
+The order keeps each client's own; if there are times, also that of requests of which one was answered before the
 other was sent. Faults change nothing. The last line is an order, none, or that the search gave up after N states; the
-status is 0, 1 or 3, and 2 where there is nothing to judge. With --order each request is printed in its turn.
+status is 0, 1 or 3, and 2 if there is nothing to judge. With --order each request is printed in its turn.
 """
 
 import argparse
@@ -110,7 +110,7 @@ class ClientRecord(NamedTuple):
 
 
 def ended_lines(path: pathlib.Path) -> tuple[list[bytes], bytes]:
-    """The lines of a file, and what is behind the last line feed."""
+    """The lines of a file, and what is after the last line feed."""
     *lines, rest = path.read_bytes().split(b"\n")
     return lines, rest
 
@@ -127,7 +127,7 @@ def read_client(path: pathlib.Path) -> ClientRecord:
 
 
 def read_times(path: pathlib.Path, count: int) -> list[Times]:
-    """When each line was sent and its reply heard; None, None for each where there is no such file."""
+    """When each line was sent and its reply heard; None, None for each if there is no such file."""
     if not path.exists():
         return [(None, None)] * count
     rows = [[int(word) for word in row.split()] for row in path.read_bytes().splitlines()]
@@ -142,7 +142,7 @@ class Wrong(Exception):
 
 def requests_of(client: ClientRecord) -> list[tuple[int, Asked]]:
     """The client's requests that a tree answers, each with the number of its line. Other lines have the reply that they
-    can have alone, and behind one that ends the session nothing is read."""
+    can have alone, and after one that ends the session nothing is read."""
     asked: list[tuple[int, Asked]] = []
     for number, line in enumerate(client.lines, 1):
         read = read_line(line)

@@ -2,7 +2,7 @@
 
     from yakembi import client
 
-    with client.connect(4711) as session:        # the port that `mountd serve` told, or its socket's path
+    with client.connect(4711) as session:        # the port that `mountd serve` printed, or its socket's path
         session.write(b"/src/new.txt", 0, b"text")
         for name, kind in session.entries(b"/src"):
             print(name, kind)
@@ -43,20 +43,20 @@ GREATEST_NUMBER = (1 << 64) - 1
 BUFFER = 1 << 18
 # How many paths are kept with their texts, since a file is read in pages.
 KEPT_PATHS = 1_024
-# How a refusal is told.
+# How a refusal is spelled.
 REFUSED = re.compile(rb"err ([0-9]{1,4}) [A-Z0-9]+")
 
 # What stands at a path: a plain file, an executable one, a link, a directory.
 FILE, EXEC, LINK, DIR = "file", "exec", "link", "dir"
 
-# The names of a path, from the top down; what stands in a reply behind its first word.
+# The names of a path, from the top down; what stands in a reply after its first word.
 Names = Sequence[bytes]
 Fields = list[bytes]
 
 
 class Stat(NamedTuple):
     """What stands at a path. It keeps its number for as long as it is there, wherever it is moved, and nothing else is
-    given that number; it is in the overlay's files, so that the next mount tells it too."""
+    given that number; it is in the overlay's files, so that the next mount gives it too."""
 
     kind: str
     size: int
@@ -64,7 +64,7 @@ class Stat(NamedTuple):
 
 
 class Page(NamedTuple):
-    """Rows of a name and its kind, and whether more come behind them."""
+    """Rows of a name and its kind, and whether more come after them."""
 
     entries: list[tuple[bytes, str]]
     more: bool
@@ -142,7 +142,7 @@ def number_field(number: int) -> bytes:
 class Requests(abc.ABC):
     """The fourteen requests, over an `ask` that sends the fields of one line.
 
-    The reply to it begins with the word `head`; `ask` gives the fields behind that, or raises what else was told.
+    The reply to it begins with the word `head`; `ask` gives the fields after that, or raises what else was told.
     """
 
     @abc.abstractmethod
@@ -317,7 +317,7 @@ class Session(Requests):
         return reply[:-1]
 
     def close(self) -> int | None:
-        """Ends the session; the status of a child that stood behind it."""
+        """Ends the session; the status of a child that served it."""
         self.usable = False
         for stream in (self.writer, self.reader):
             try:

@@ -3,7 +3,7 @@
 That run unmounts the folder for a moment, so that `mountd` closes the overlay, has `mountd snapshot` make Git's objects
 of what is the mount's own, and starts `mountd` again: nobody may stand in the folder, or have a file of it open, and
 programs that come meanwhile wait. The objects go into the repository by Git's own commands, and the branch is moved
-only where it still is at the commit that the folder stands on. `mount-git git` commits in a folder that is in use.
+only if it still is at the commit that the folder stands on. `mount-git git` commits in a folder that is in use.
 """
 
 import argparse
@@ -21,7 +21,7 @@ from yakembi.git import DOT_GIT, Refusal, Repository, entries, environment, said
 from yakembi.git_folder import NO_COMMIT, GitFolder, base_in, tell_of_left
 from yakembi.packs import objects_in, write_pack
 
-# Up to so many objects become a file each, as `git receive-pack` does it by itself; more become one pack.
+# Up to this many objects become a file each, as `git receive-pack` does it by itself; more become one pack.
 LOOSE = 100
 # Who commits, and when, as far as the caller's environment says it.
 SIGNING = re.compile(r"GIT_(AUTHOR|COMMITTER)_(NAME|EMAIL|DATE)")
@@ -54,7 +54,7 @@ def committed_by(mount: Connection, words: argparse.Namespace) -> tuple[str, str
     if tree == repository.tree_of(base):
         raise Refusal("nothing is changed since the commit that the folder stands on")
     if was not in (base, NO_COMMIT):
-        # As where a run was killed before the mount was told.
+        # As when a run was killed before the mount learnt it.
         if tree != repository.tree_of(was):
             raise elsewhere(branch, was, base)
         tell("the branch has a commit of this already, and no other is made")
@@ -72,7 +72,7 @@ def committed_by(mount: Connection, words: argparse.Namespace) -> tuple[str, str
 
 
 def check_names(objects: Sequence[pathlib.Path]) -> None:
-    """A Refusal, where a tree among the framed objects has a name that Git takes from no commit."""
+    """A Refusal, if a tree among the framed objects has a name that Git takes from no commit."""
     for place in objects:
         with open(place, "rb") as file:
             if file.read(5) == b"tree ":

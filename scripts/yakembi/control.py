@@ -1,7 +1,7 @@
 """What another run of `mount-git` may ask of the one that shows a folder, over a socket of the folder's own.
 
 The socket lies in a folder that its user alone may enter, under a name that is reckoned from the shown folder's path,
-so that whoever is told the folder finds it. Requests and replies are lines of JSON. What a request makes is there until
+so that whoever knows the folder finds it. Requests and replies are lines of JSON. What a request makes is there until
 its connection ends.
 """
 
@@ -36,8 +36,8 @@ SECONDS_TO_REMOVE = 60
 
 
 def tell(line: str) -> None:
-    """Tells a line of `mount-git`'s on standard error, in one piece, since threads tell side by side. Where nobody can
-    be told, as on a full disk, all goes on."""
+    """Prints a line of `mount-git`'s on standard error, in one piece, since threads print side by side. If nobody can
+    read it, as on a full disk, all continues."""
     with contextlib.suppress(OSError, AttributeError):
         sys.stderr.write(f"mount-git: {line}\n")
         sys.stderr.flush()
@@ -139,7 +139,7 @@ class Asked(ConnectionHandler):
         except (Refusal, OSError) as problem:
             return {"refusal": said_of(problem)}
         except Exception as problem:
-            # Nobody foresaw it, and who asked is told all the same.
+            # Nobody foresaw it, and who asked gets an answer all the same.
             return {"refusal": f"the mount failed: {problem!r}"}
 
     @functools.cached_property
@@ -148,7 +148,7 @@ class Asked(ConnectionHandler):
 
 
 def fields_in(line: bytes) -> Fields:
-    """The fields of a request's line. A Refusal, where it is none."""
+    """The fields of a request's line. A Refusal, if it is none."""
     try:
         found = json.loads(line)
     except (ValueError, RecursionError):
@@ -159,7 +159,7 @@ def fields_in(line: bytes) -> Fields:
 
 
 def text_of(fields: Fields, name: str) -> str:
-    """The text that a request has in that field. A Refusal, where it has none."""
+    """The text that a request has in that field. A Refusal, if it has none."""
     found = fields.get(name)
     if not isinstance(found, str):
         raise Refusal(f"the request has no text named {name}")
@@ -199,7 +199,7 @@ class Connection:
         self.lines = self.socket.makefile("rb")
 
     def ask(self, what: str, **fields: str) -> Fields:
-        """The reply to that request. A Refusal, where there is one, or none comes."""
+        """The reply to that request. A Refusal, if there is one, or none comes."""
         try:
             self.socket.sendall(json.dumps({"do": what, **fields}).encode() + b"\n")
             line = self.lines.readline()

@@ -3,7 +3,7 @@ changed, or that came from a commit, as by a switch to another branch.
 
 An overlay keeps all that was ever changed, so it grows. This leaves in it what differs from the commit, and directories
 that were changed. The folder shows the same, with the same inode numbers; but whatever comes from the commit has this
-moment as its time, and a build by times builds all once. Changes are told against the commit's tree from then on. The
+moment as its time, and a build by times builds all once. Changes are listed against the commit's tree from then on. The
 repository keeps the objects by refs of its own. No mount may have the overlay.
 """
 
@@ -34,7 +34,7 @@ def dematerialise(words: argparse.Namespace) -> None:
 
 
 def noted_of_closed(repository: Repository, overlay: OverlayFolder) -> Noted:
-    """What is noted of an overlay that is closed. A Refusal, where it isn't, or stands on a tree of which nothing is
+    """What is noted of an overlay that is closed. A Refusal, if it isn't, or stands on a tree of which nothing is
     noted."""
     root, noted = overlay.state_root(), overlay.noted()
     if root is None:
@@ -51,8 +51,8 @@ def noted_of_closed(repository: Repository, overlay: OverlayFolder) -> Noted:
 
 
 def followed(repository: Repository, overlay: OverlayFolder, root: str) -> Noted | None:
-    """What is to be noted of an overlay whose state says the tree `root`, and its note another one, where that is the
-    tree of its commit: it was dematerialised, and that was cut short. What Git is told follows. None where it is no
+    """What is to be noted of an overlay whose state says the tree `root`, and its note another one, if that is the
+    tree of its commit: it was dematerialised, and that was cut short. What Git sees follows. None if it is no
     such tree."""
     noted = overlay.noted()
     commit = repository.commit_of(noted.commit) if noted is not None and noted.commit is not None else None
@@ -63,7 +63,7 @@ def followed(repository: Repository, overlay: OverlayFolder, root: str) -> Noted
 
 
 def commit_under(repository: Repository, git: GitFolder, noted: Noted) -> str:
-    """The commit on which the folder stands, as Git's HEAD there says it, where Git worked in it. A Refusal, where none
+    """The commit on which the folder stands, as Git's HEAD there says it, if Git worked in it. A Refusal, if none
     is known, Git is in the middle of something, or the repository is another one or can't be written."""
     known = repository.commit_id(noted.commit) if noted.commit is not None else None
     stand = Stand(known, None)
@@ -82,11 +82,11 @@ def commit_under(repository: Repository, git: GitFolder, noted: Noted) -> str:
 
 def without_those_of(repository: Repository, overlay: OverlayFolder, noted: Noted, commit: str,
                      mountd: str | os.PathLike[str]) -> str:
-    """Takes that commit's files out of the overlay, which stands on its tree then, and tells how many these are.
-    Wherever it is cut short the next mount, or the next run, goes on from there."""
+    """Takes that commit's files out of the overlay, which stands on its tree then, and says how many these are.
+    Wherever it is cut short the next mount, or the next run, continues from there."""
     git, to = GitFolder(overlay.path), repository.tree_of(commit)
     if to != noted.tree:
-        # Before anything can come from both: where it is cut short, one is known from which nothing comes.
+        # Before anything can come from both: if it is cut short, one is known from which nothing comes.
         overlay.keep_stood_on({noted.tree, to})
     kept_tree.keep_trees(repository, git.own_name(), [noted.tree, to])
     # Git alone has soon what goes, and waits for no disk when it stores an object or a ref.
@@ -99,7 +99,7 @@ def without_those_of(repository: Repository, overlay: OverlayFolder, noted: Note
             run_mountd(subprocess.PIPE, mountd, "dematerialise", "--root", noted.tree, "--tree", to, *source,
                        "--overlay", overlay.path, held=(overlay.note,))
     finally:
-        # Where it failed the note says what it came to all the same.
+        # If it failed the note says what it came to all the same.
         after = overlay.lengths()
         if overlay.state_root() == to:
             git.follow(noted.tree, to)

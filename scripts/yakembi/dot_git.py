@@ -2,9 +2,9 @@
 themselves.
 
 As in any linked working tree it names what the repository has for it among its own, which is a link to the overlay's
-folder `git`. What Git is told besides stands there in `settings`, which the repository's own settings include for this
+folder `git`. What Git needs besides stands there in `settings`, which the repository's own settings include for this
 one of its working trees. What the file says stands there in `dot-git`, as long as it is shown. It is in no commit, and
-no change is told of it.
+no change is listed of it.
 """
 
 import contextlib
@@ -23,12 +23,12 @@ from yakembi.git_folder import LINK, SETTINGS, GitFolder, folder_for_git, includ
 # What it says before it names the folder (gitrepository-layout(5)), and where such a folder of ours lies. One that was
 # never written whole is empty, and over a longer text stand line feeds.
 OURS = re.compile(rb"(?:gitdir: .*/worktrees/" + LINK.encode() + rb"[0-9a-f]+\n+)?", re.DOTALL)
-# No path of it is so long.
+# No path of it is this long.
 LONGEST = 1 << 13
 
 
 def make(about: Fields, top: str) -> None:
-    """Makes it, or makes it right, and all that it leads to. A Refusal, where the folder has another `.git`, or the
+    """Makes it, or makes it right, and all that it leads to. A Refusal, if the folder has another `.git`, or the
     repository can't be written, or nothing is mounted any more."""
     if "\n" in about["overlay"]:
         # Each setting of Git's is named in one line.
@@ -48,7 +48,7 @@ def make(about: Fields, top: str) -> None:
 
 
 def renew(folder: GitFolder, facts: Callable[[], Fields], showing: kernel.Showing) -> None:
-    """At a mount's begin: where the folder was left with it, it is made right for this mount. Where it can't be, a line
+    """At a mount's begin: if the folder was left with it, it is made right for this mount. If it can't be, a line
     says so."""
     if not folder.dot_git_text.exists():
         return
@@ -82,7 +82,7 @@ def mounted(top: str) -> Iterator[int]:
 
 
 def text_at(place: int) -> bytes | None:
-    """What the file says; None where there is none. What is no file says nothing that is ours."""
+    """What the file says; None if there is none. What is no file says nothing that is ours."""
     try:
         with open(os.open(DOT_GIT, os.O_RDONLY | os.O_NOFOLLOW | os.O_CLOEXEC, dir_fd=place), "rb") as file:
             return file.read(LONGEST)
@@ -117,7 +117,7 @@ def settings_text(settings: dict[str, str]) -> bytes:
 
 
 def taken_out(objects: pathlib.Path, tree: str) -> str:
-    """The tree without our `.git` at its top, where it has that. The framed objects are those of the new one then."""
+    """The tree without our `.git` at its top, if it has that. The framed objects are those of the new one then."""
     old = place_of(objects, tree)
     if not old.exists():
         # Nothing at the top is the mount's own.

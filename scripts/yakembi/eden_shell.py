@@ -4,7 +4,7 @@
     eden-shell PROGRAM [WORD ..]        on a session with a program, as `mountd stdio --root ID --objects DIR`
 
 Commands come from standard input, one a line, with quotes as in a shell; a line that begins with # is passed over.
-`help` tells them. What goes wrong is told in a line, and the next command is read; the status is 1 where anything did.
+`help` lists them. What goes wrong is printed in a line, and the next command is read; the status is 1 if anything did.
 """
 
 import argparse
@@ -81,7 +81,7 @@ class Shell(cmd.Cmd):
         return joined(self.names(text))
 
     def into(self, text: str, name: bytes) -> bytes:
-        """The path, or where it is a folder that name in it."""
+        """The path, or if it is a folder that name in it."""
         path = self.path(text)
         try:
             kind = self.session.kind(path)
@@ -92,7 +92,7 @@ class Shell(cmd.Cmd):
     # ---- the loop
 
     def onecmd(self, line: str) -> bool:
-        """Runs a command, and tells what goes wrong; a session that ended ends the shell."""
+        """Runs a command, and prints what goes wrong; a session that ended ends the shell."""
         if line.lstrip().startswith("#"):
             return False
         try:
@@ -128,7 +128,7 @@ class Shell(cmd.Cmd):
     # ---- commands
 
     def do_ls(self, line: str) -> None:
-        """ls [-l] [PATH ..]: the names in a folder, folders marked by /, programs by *, links by @; -l tells sizes"""
+        """ls [-l] [PATH ..]: the names in a folder, folders marked by /, programs by *, links by @; -l shows sizes"""
         words = shlex.split(line)
         long = "-l" in words
         for word in [word for word in words if word != "-l"] or [""]:
@@ -238,7 +238,7 @@ class Shell(cmd.Cmd):
     # ---- completion
 
     def completedefault(self, *told: Any) -> list[str]:
-        """The paths that go on from this one."""
+        """The paths that continue this one."""
         text: str = told[0]
         above, _, part = text.rpartition("/")
         folder = above + "/" if "/" in text else ""
@@ -251,7 +251,7 @@ class Shell(cmd.Cmd):
 
 
 def some(line: str, least: int = 1, most: int | None = None) -> list[str]:
-    """The words of a command, of which it takes so many."""
+    """The words of a command, of which it takes this many."""
     words = shlex.split(line)
     if len(words) < least or (most is not None and len(words) > most):
         raise Misused
@@ -270,7 +270,7 @@ def session_with(mount: str, words: list[str]) -> Session:
 
 
 def complete_whole_paths() -> None:
-    """Where readline is there, a path is one word to complete."""
+    """If readline is there, a path is one word to complete."""
     try:
         import readline
     except ImportError:

@@ -1,5 +1,5 @@
-"""How signals end `mount-git`: by an exit, which lets go what is held, or as the mount ends. Then they do nothing more,
-so that what is let go is, and the status is that of the end.
+"""How signals end `mount-git`: by an exit, which releases what is held, or as the mount ends. Then they do no more,
+so that what is to be released is, and the status is that of the end.
 """
 
 import contextlib
@@ -8,7 +8,7 @@ import sys
 from collections.abc import Callable, Iterator
 
 SIGNALS = (signal.SIGTERM, signal.SIGINT, signal.SIGHUP)
-# Those by which an exit was begun. What is raised then is lost where Python happens to be in a destructor.
+# Those by which an exit was begun. What is raised then is lost if Python happens to be in a destructor.
 came: list[int] = []
 
 
@@ -36,7 +36,7 @@ def ignore() -> None:
 
 @contextlib.contextmanager
 def calls(end: Callable[[], object]) -> Iterator[None]:
-    """In the block signals call `end`, each time that it isn't under way, and behind it they do nothing."""
+    """In the block signals call `end`, each time that it isn't under way, and after it they do nothing."""
     is_under_way = False
 
     def call(*_: object) -> None:

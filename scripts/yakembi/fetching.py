@@ -21,7 +21,7 @@ from yakembi.git import Remote, Repository, remote_environment, said
 
 # As `git fetch` names what it keeps apart; `git gc` removes what is old and begins so.
 APART = "tmp_objdir-git-objects-"
-# By ids alone: no reference is read or written, nothing is told of what is there, and no one else's work is done.
+# By ids alone: no reference is read or written, nothing is said of what is there, and no one else's work is done.
 FETCH = ["-c", "protocol.version=2", "-c", "fetch.negotiationAlgorithm=noop", "-c", "core.alternateRefsCommand=true",
          "fetch", "--no-tags", "--no-prune", "--no-write-fetch-head", "--no-recurse-submodules",
          "--no-auto-maintenance", "--no-write-commit-graph"]
@@ -38,11 +38,11 @@ class Unanswered(Exception):
 
 
 class TooSlow(Unanswered):
-    """It went on, and took longer than it may."""
+    """It continued, and took longer than it may."""
 
 
 class Bounds(NamedTuple):
-    """What a question may take: so many seconds in which nothing comes, so many in all, and so many bytes."""
+    """What a question may take: this many seconds in which nothing comes, this many in all, and this many bytes."""
 
     silence: float
     seconds: float = float("inf")

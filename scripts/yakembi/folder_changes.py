@@ -4,7 +4,7 @@ That is the tree that the mount was opened with, also after a commit of what the
 T as `git diff --name-status` has them, and the path from the top of the folder, quoted as Git quotes it. A directory
 ends in a slash. One that was moved, added or removed as a whole has one line: what is below is as it was, or isn't
 there, and nothing of it is fetched. The folder may be in use: who comes meanwhile waits, and what was written to a file
-that isn't closed yet isn't told.
+that isn't closed yet isn't listed.
 """
 
 import argparse
@@ -27,7 +27,7 @@ QUOTED = {byte: ESCAPES.get(byte, chr(byte) if 32 <= byte < 127 else f"\\{byte:0
 
 class Change(NamedTuple):
     """What was changed at a path, which has no slash at its front. `kind` is `file`, `exec`, `link`, `dir` or
-    `submodule`. Below what is told whole no change is told."""
+    `submodule`. Below what is listed whole no change is listed."""
 
     letter: str
     kind: str
@@ -46,7 +46,7 @@ def changes_in(lines: Iterator[bytes]) -> Iterator[Change]:
 
 
 def quoted(path: bytes) -> str:
-    """The path as Git prints it: in quotes, with escapes, where it has a byte that is no plain letter."""
+    """The path as Git prints it: in quotes, with escapes, if it has a byte that is no plain letter."""
     text = "".join(QUOTED[byte] for byte in path)
     return text if len(text) == len(path) else f'"{text}"'
 
@@ -72,6 +72,6 @@ def changes_parser() -> argparse.ArgumentParser:
     found = argparse.ArgumentParser(prog="mount-git changes", description=__doc__,
                                     formatter_class=argparse.RawDescriptionHelpFormatter)
     found.add_argument("folder", metavar="FOLDER", help="a folder that `mount-git` shows, or one below it")
-    found.add_argument("-z", "--null", action="store_true", help="print a zero byte behind each letter and each path, "
+    found.add_argument("-z", "--null", action="store_true", help="print a zero byte after each letter and each path, "
                        "and quote no path, as `git diff --name-status -z` does")
     return found

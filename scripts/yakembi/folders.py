@@ -1,4 +1,4 @@
-"""Which blobs lie in one folder, as the trees tell that went through a server of objects, or that a clone has."""
+"""Which blobs lie in one directory, as the trees say that went through a server of objects, or that a clone has."""
 
 import bisect
 import collections
@@ -67,7 +67,7 @@ class Folder:
         return max(self.bytes // self.served, LEAST_BYTES) if self.served else USUAL_BYTES
 
     def others(self, blob: str) -> list[str]:
-        """Its other blobs: those behind this one, and then those before it.
+        """Its other blobs: those after this one, and then those before it.
 
         None, if others were guessed while it is read, and it isn't read on from where these end: a guess that isn't
         followed is the last.
@@ -90,7 +90,7 @@ def is_now(at: float) -> bool:
 
 
 class Folders:
-    """The folders that are known, with so many names at most. Its calls come from one thread at a time."""
+    """The folders that are known, with this many names at most. Its calls come from one thread at a time."""
 
     def __init__(self, most_names: int = MOST_NAMES) -> None:
         self.most_names = most_names
@@ -153,12 +153,12 @@ class Folders:
 
 
 class Trees:
-    """Trees that a clone has, to look a blob's folder up in: as many as have so many bytes. Any thread may use it."""
+    """Trees that a clone has, to look a blob's folder up in: as many as have this many bytes. Any thread may use it."""
 
     def __init__(self, most_bytes: int = MOST_BYTES) -> None:
         self.most_bytes = most_bytes
         self.lock = threading.Lock()
-        # The trees one behind the other: the id of each, where it begins, and their bytes.
+        # The trees one after the other: the id of each, where it begins, and their bytes.
         self.ids: list[str] = []
         self.starts: list[int] = []
         self.bodies = bytearray()
@@ -197,7 +197,7 @@ class Trees:
 
 
 def folder_or_none(tree_id: str, body: bytes) -> Folder | None:
-    """A tree's folder; None where it is damaged."""
+    """A tree's directory; None if it is damaged."""
     try:
         return Folder(tree_id, body)
     except Refusal:

@@ -78,12 +78,12 @@ class Repository:
             raise Refusal(f"{path} names its objects by {names.stdout.decode().strip() or 'something'}, not by SHA-1")
 
     def check(self) -> None:
-        """A Refusal, where it isn't there any more."""
+        """A Refusal, if it isn't there any more."""
         if self.git("rev-parse", "--git-dir").returncode != 0:
             raise Refusal(f"{self.path} isn't a Git repository any more")
 
     def known(self, ids: set[str]) -> set[str]:
-        """Those objects that it has, all of them if that can't be told."""
+        """Those objects that it has, all of them if that can't be said."""
         done = subprocess.run(["git", "-C", self.path, "cat-file", "--batch-check"], capture_output=True,
                               input="".join(f"{object_id}\n" for object_id in ids).encode(), env=environment())
         if done.returncode != 0:
@@ -96,7 +96,7 @@ class Repository:
                               env=environment())
 
     def commit_of(self, revision: str) -> Commit | None:
-        """The commit that a revision names; None where it names none.
+        """The commit that a revision names; None if it names none.
 
         It is read from the commit's own text: `rev-parse` and `show` have Git fetch the tree, and in a clone without
         trees all that lies below it.
@@ -107,12 +107,12 @@ class Repository:
         return Commit(found[1].decode(), int(found[2])) if found else None
 
     def commit_id(self, revision: str) -> str | None:
-        """The id of the commit that a revision names; None where it names none."""
+        """The id of the commit that a revision names; None if it names none."""
         done = self.git("rev-parse", "--verify", "--quiet", "--end-of-options", f"{revision}^{{commit}}")
         return done.stdout.decode().strip() if done.returncode == 0 else None
 
     def branch_of(self, revision: str) -> str | None:
-        """The full name of the branch that a revision names, as that of `HEAD`; None where it names none."""
+        """The full name of the branch that a revision names, as that of `HEAD`; None if it names none."""
         done = self.git("rev-parse", "--symbolic-full-name", "--verify", "--quiet", "--end-of-options", revision)
         name = os.fsdecode(done.stdout.removesuffix(b"\n"))
         return name if done.returncode == 0 and name.startswith("refs/heads/") else None
@@ -172,7 +172,7 @@ class Objects:
         self.asks, self.answers = self.process.stdin, self.process.stdout
 
     def ask(self, object_id: str) -> tuple[str, int] | None:
-        """The object's word and its length, and the body must be read next; None where the repository lacks it."""
+        """The object's word and its length, and the body must be read next; None if the repository lacks it."""
         try:
             self.asks.write(object_id.encode() + b"\n")
             self.asks.flush()

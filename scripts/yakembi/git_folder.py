@@ -66,8 +66,8 @@ BESIDE_MERGED = "MERGE_MSG", "MERGE_MODE", "AUTO_MERGE", "SQUASH_MSG"
 
 
 class Stand(NamedTuple):
-    """The commit that a mounted folder stands on, where its branch has one, and the branch that goes on to the next
-    one. `left` is the branch that it was on until it was looked at, where somebody else had moved that."""
+    """The commit that a mounted folder stands on, if its branch has one, and the branch that moves to the next
+    one. `left` is the branch that it was on until it was looked at, if somebody else had moved that."""
 
     commit: str | None
     branch: str | None
@@ -75,7 +75,7 @@ class Stand(NamedTuple):
 
 
 class GitFolder:
-    """The folder of an overlay. `lock` has it for one run of `mount-git` at a time; Git has locks of its own."""
+    """The directory of an overlay. `lock` has it for one run of `mount-git` at a time; Git has locks of its own."""
 
     def __init__(self, overlay: str | os.PathLike[str]) -> None:
         self.path = pathlib.Path(os.path.realpath(overlay), "git")
@@ -109,8 +109,8 @@ class GitFolder:
             raise
 
     def made_for(self) -> dict[str, str]:
-        """The mount that it is for: `top`, the mounted folder, `tree`, against which changes are told, `of`, the
-        repository, and `at`, where the folder itself lay. Nothing, where it was never made, or a disk lost it."""
+        """The mount that it is for: `top`, the mounted folder, `tree`, against which changes are listed, `of`, the
+        repository, and `at`, where the folder itself lay. Nothing, if it was never made, or a disk lost it."""
         found = {"at": str(self.path), **fields_of(self.made)}
         is_whole = all(isinstance(found.get(name), str) and "\0" not in found[name] for name in MADE_FOR)
         return {name: found[name] for name in MADE_FOR} if is_whole else {}
@@ -120,7 +120,7 @@ class GitFolder:
         return self.made_for().get("tree") == tree
 
     def has_index(self) -> bool:
-        """Whether it has an index that Git would read, as far as its first bytes tell."""
+        """Whether it has an index that Git would read, as far as its first bytes show."""
         with contextlib.suppress(OSError), open(self.index, "rb") as file:
             return file.read(len(INDEX_HEAD)) == INDEX_HEAD
         return False
@@ -154,7 +154,7 @@ class GitFolder:
         return self.say("ls-files", "-z")
 
     def otherwise(self, *which: str, index: str | None = None) -> set[bytes]:
-        """The paths that the index has otherwise than the tree against which changes are told, or another index."""
+        """The paths that the index has otherwise than the tree against which changes are listed, or another index."""
         words = ["diff-index", "--cached", "--name-only", "--no-renames", "-z", *which, self.made_for()["tree"]]
         return set(self.say(*words, index=index))
 
@@ -172,10 +172,10 @@ class GitFolder:
     # ---- what the folder stands on
 
     def stands_on(self, repository: Repository) -> Stand | None:
-        """What HEAD says; None where there is none yet, or it says nothing, as where a disk lost it.
+        """What HEAD says; None if there is none yet, or it says nothing, as when a disk lost it.
 
-        Where HEAD's branch was moved from elsewhere, or the repository lacks the commit, the folder stands where it
-        stood last that the repository knows, and on no branch, and HEAD says so from now on. A Refusal, where that
+        If HEAD's branch was moved from elsewhere, or the repository lacks the commit, the folder stands where it
+        stood last that the repository knows, and on no branch, and HEAD says so from now on. A Refusal, if that
         can't be said, since Git holds HEAD, or the repository has none of these.
         """
         found = self.head_says(repository)
@@ -198,9 +198,9 @@ class GitFolder:
 
     def left_at(self, repository: Repository, commits: list[str]) -> str | None:
         """Puts HEAD, which is held, on no branch: on the first of these commits that the repository knows, or else on
-        the last of its log. None, where it knows none, or nothing at all, as where it is away.
+        the last of its log. None if it knows none, or nothing at all, as when it is away.
 
-        What it lacks its log tells no more, or Git would miss that.
+        What it lacks its log says no more, or Git would miss that.
         """
         repository.check()
         lines = self.log.read_bytes().split(b"\n")[:-1] if self.log.exists() else []
@@ -216,7 +216,7 @@ class GitFolder:
         return known
 
     def stood_at(self, found: Stand | None) -> str | None:
-        """The commit that the folder stood on, where that isn't any more what HEAD says, as it was found; None where it
+        """The commit that the folder stood on, if that isn't any more what HEAD says, as it was found; None if it
         is."""
         if found is not None:
             return self.stood_on(found)
@@ -226,7 +226,7 @@ class GitFolder:
         return None
 
     def stood_before(self) -> list[str]:
-        """The commits on which it stood, as far as HEAD's log tells, the last one first."""
+        """The commits on which it stood, as far as HEAD's log says, the last one first."""
         return [line.split()[0] for line in reversed(self.logged())]
 
     def head_says(self, repository: Repository) -> Stand | None:
@@ -241,10 +241,10 @@ class GitFolder:
         return None
 
     def stood_on(self, found: Stand) -> str | None:
-        """The commit that the folder stood on, where HEAD's branch was moved from elsewhere since HEAD was looked at;
-        None where it wasn't.
+        """The commit that the folder stood on, if HEAD's branch was moved from elsewhere since HEAD was looked at;
+        None if it wasn't.
 
-        HEAD's log tells what was done here. Git cuts it now and then, so what was seen at the last look counts too.
+        HEAD's log says what was done here. Git cuts it now and then, so what was seen at the last look counts too.
         """
         lines = self.logged()
         last = lines[-1].split()[0] if lines else None
@@ -293,7 +293,7 @@ class GitFolder:
 
     @contextlib.contextmanager
     def held(self, name: str) -> Iterator[None]:
-        """That file is held as Git holds what it writes. A Refusal, where somebody else holds it for long."""
+        """That file is held as Git holds what it writes. A Refusal, if somebody else holds it for long."""
         lock, end = self.path / f"{name}.lock", time.monotonic() + SECONDS_HELD
         while True:
             with contextlib.suppress(FileExistsError):
@@ -309,8 +309,8 @@ class GitFolder:
 
     def is_strange_to(self, repository: Repository, tree: str, commit: str | None) -> bool:
         """Whether Git worked in the folder for another repository, with that tree mounted, and this one has none of the
-        commits on which the folder ever stood, as far as HEAD, its log and that commit tell. It may have the tree all
-        the same, but nothing on which HEAD could go on. A Refusal, where the repository is away."""
+        commits on which the folder ever stood, as far as HEAD, its log and that commit say. It may have the tree all
+        the same, but nothing on which HEAD could continue. A Refusal, if the repository is away."""
         made = self.made_for()
         if made.get("tree") != tree or made["of"] == repository.common_folder:
             return False
@@ -321,7 +321,7 @@ class GitFolder:
         return not there
 
     def check_known_to(self, repository: Repository, tree: str, commit: str | None) -> None:
-        """A Refusal, where it is strange to the repository."""
+        """A Refusal, if it is strange to the repository."""
         if self.is_strange_to(repository, tree, commit):
             raise Refusal(f"{repository.path} has no commit on which the folder ever stood: it is another repository")
 
@@ -348,7 +348,7 @@ class GitFolder:
         return left
 
     def begin(self, repository: Repository, commit: str, branch: str | None) -> None:
-        """The first HEAD, and its log: the branch, where it is at the commit, and else the commit."""
+        """The first HEAD, and its log: the branch, if it is at the commit, and else the commit."""
         if repository.settings(r"^extensions\.refstorage$"):
             raise Refusal("the repository keeps its branches in another form than files")
         is_there = branch is not None and repository.commit_id(branch) == commit
@@ -358,7 +358,7 @@ class GitFolder:
             self.put("HEAD", (b"ref: " + os.fsencode(branch or "") if is_there else commit.encode()) + b"\n")
 
     def move(self, repository: Repository, branch: str, made: str, was: str, why: str) -> None:
-        """Moves the branch, where it still is where it was. Where the folder is on it, its log says so with that."""
+        """Moves the branch, if it still is where it was. If the folder is on it, its log says so with that."""
         here = [f"--git-dir={self.path}"] if self.head_says(repository) else []
         done = repository.git(*here, "update-ref", "-m", why, branch, made, was)
         if done.returncode != 0:
@@ -366,7 +366,7 @@ class GitFolder:
 
     @contextlib.contextmanager
     def index_held(self) -> Iterator[None]:
-        """Git stages and commits nothing in the folder, where it ever did."""
+        """Git stages and commits nothing in the folder, if it ever did."""
         with self.held("index") if self.index.exists() else contextlib.nullcontext():
             yield
 
@@ -397,7 +397,7 @@ class GitFolder:
         written.replace(self.index)
 
     def follow(self, old: str, new: str) -> None:
-        """Changes are told against the tree `new` from now on, which is that of the folder's commit, and no more
+        """Changes are listed against the tree `new` from now on, which is that of the folder's commit, and no more
         against `old`. An index that has nothing else than that commit goes, and with it what was told for it: Git
         wouldn't cease to look at that."""
         if not self.is_at(old) and not self.is_at(new):
@@ -411,14 +411,14 @@ class GitFolder:
                 self.index.unlink()
 
     def is_plain(self) -> bool:
-        """Whether the index has each path as the tree has it against which changes are told, and says nothing more of
+        """Whether the index has each path as the tree has it against which changes are listed, and says nothing more of
         any, as that Git is to leave it alone."""
         rows = self.say("ls-files", "-vz")
         differing = self.otherwise("--ita-visible-in-index", "--ignore-submodules=none")
         return all(row.startswith(b"H ") for row in rows) and not differing
 
     def hold_at(self, top: str) -> None:
-        """The index holds for the folder now that it is mounted there. Where it has no cache to be told so, Git looks
+        """The index holds for the folder now that it is mounted there. If it has no cache to be told so, Git looks
         into all directories."""
         with contextlib.suppress(OSError, Refusal), self.held("index"):
             self.put("index", git_index.moved(self.index.read_bytes(), self.made_for()["top"], top))
@@ -438,7 +438,7 @@ class GitFolder:
         return made
 
     def unlink(self) -> None:
-        """The repository forgets it, where it knew it: it goes with a temporary overlay."""
+        """The repository forgets it, if it knew it: it goes with a temporary overlay."""
         if (of := self.made_for().get("of")) is not None:
             exclude(of, self.path)
             with contextlib.suppress(OSError):
@@ -451,7 +451,7 @@ class GitFolder:
             self.put("gitdir", os.fsencode(self.path / DOT_GIT) + b"\n")
 
     def linked(self) -> pathlib.Path:
-        """Where Git finds it, among the repository's linked working trees. Where these can't be written Git finds it
+        """Where Git finds it, among the repository's linked working trees. If these can't be written Git finds it
         here, and makes no objects that would have to be kept."""
         link = self.link()
         trees = link.parent
@@ -491,12 +491,12 @@ def configured(common: str | os.PathLike[str], *words: str) -> subprocess.Comple
 
 def include(common: str, folder: pathlib.Path) -> None:
     """The repository's settings include what stands in `settings` there, for Git that has that folder of an overlay. A
-    Refusal, where they can't be written."""
+    Refusal, if they can't be written."""
     key, wanted = f"{section_of(folder)}.path", str(folder / "settings")
     if os.fsdecode(configured(common, "-z", "--get", key).stdout.removesuffix(b"\0")) == wanted:
         if is_asked(folder):
             return
-        # Others stand behind it, which count more.
+        # Others stand after it, which count more.
         exclude(common, folder)
     done = configured(common, key, wanted)
     if done.returncode != 0:
@@ -513,7 +513,7 @@ def is_asked(folder: pathlib.Path) -> bool:
 
 
 def exclude(common: str | os.PathLike[str], folder: pathlib.Path) -> None:
-    """They don't any more, where they did and are there."""
+    """They don't any more, if they did and are there."""
     if not os.path.exists(os.path.join(common, "config")):
         return
     done = configured(common, "--remove-section", section_of(folder))
@@ -541,7 +541,7 @@ def section_of(folder: pathlib.Path) -> str:
 
 
 def tell_of_left(stand: Fields) -> None:
-    """Tells that the folder isn't on the branch any more that somebody moved from elsewhere, or on the commit that the
+    """Reports that the folder left the branch that somebody moved from elsewhere, or the commit that the
     repository lacks."""
     if left := stand.get("left"):
         what = f"{left} was moved from elsewhere" if left.startswith("refs/") else f"the repository lacks {left}"
@@ -558,7 +558,7 @@ def sign_of(file: pathlib.Path) -> tuple[int, int, int] | None:
 
 
 def fields_of(file: pathlib.Path) -> Fields:
-    """The fields of a file that we wrote; none where it isn't there, or isn't whole."""
+    """The fields of a file that we wrote; none if it isn't there, or isn't whole."""
     with contextlib.suppress(OSError, ValueError):
         found = json.loads(file.read_bytes())
         if isinstance(found, dict):
@@ -573,7 +573,7 @@ def who(repository: Repository) -> bytes:
 
 
 def folder_for_git(about: Fields, top: str) -> GitFolder:
-    """The folder of a mount, made where it isn't there."""
+    """The folder of a mount, made if it isn't there."""
     repository, folder = Repository(about["repository"]), GitFolder(about["overlay"])
     folder.check_known_to(repository, about["tree"], about["commit"])
     folder.path.mkdir(exist_ok=True)
@@ -603,7 +603,7 @@ def folder_for_git(about: Fields, top: str) -> GitFolder:
 
 def is_kept(folder: GitFolder, repository: Repository, was_of: str) -> bool:
     """Whether the repository, by its link, kept all that the index names. A partial clone lacks much all the same, and
-    Git tells then what it can't have."""
+    Git says then what it lacks."""
     link = pathlib.Path(os.path.realpath(repository.common_folder), "worktrees", link_name(folder.path))
     ours = os.path.join(os.path.realpath(repository.common_folder), LINKS, "")
     if repository.remotes() or not folder.has_index():
@@ -643,7 +643,7 @@ def base_in(about: Fields) -> str:
 
 
 def make(folder: GitFolder, repository: Repository, top: str, tree: str, commit: str) -> None:
-    """Writes the index of a commit, and what of it differs from the tree that `changes` are told against."""
+    """Writes the index of a commit, and what of it differs from the tree that `changes` are listed against."""
     index = folder.path / "index.new"
     git_index.write_index(folder.path, index, repository, top, commit)
     differing = repository.git("diff-tree", "-r", "-z", "--no-renames", "--name-only", tree, commit)

@@ -18,7 +18,7 @@ from yakembi.partial_clone import SILENCE, Plain
 
 # Of Git's hook `fsmonitor-watchman`.
 PROTOCOL = "2"
-# What is answered where nothing was changed, with a token that is never looked at.
+# What is answered if nothing was changed, with a token that is never looked at.
 NOTHING_CHANGED = "printf 'made\\0' #"
 # How an index is written, whatever the user's settings are.
 PLAIN_INDEX = {"index.threads": "1", "index.sparse": "false", "index.skipHash": "false", "core.splitIndex": "false",

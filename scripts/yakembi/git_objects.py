@@ -2,10 +2,10 @@
 
 What a partial clone lacks is fetched from its remote, many objects at once. With a tree its subtrees come along; once
 files of one folder are asked for one after another its other files; and once folders are gone through side by side what
-lies behind them: each time up to so many bytes (--ahead).
+lies after them: each time up to this many bytes (--ahead).
 
 A client sends `get ID` and a line feed, ID being 40 lower-case hexadecimal digits, and is answered `object N`, a line
-feed and the N framed bytes; `missing`; or `fault` where Git can't read the object or it is over 2^30 bytes. Another
+feed and the N framed bytes; `missing`; or `fault` if Git can't read the object or it is over 2^30 bytes. Another
 line ends the connection. The first line printed is `listening 127.0.0.1:PORT`, or `listening PATH` with --socket.
 Connections are served side by side.
 
@@ -38,14 +38,14 @@ POLL = 0.1
 
 
 def tell(text: str) -> None:
-    """In one piece, since threads tell side by side."""
+    """In one piece, since threads print side by side."""
     with contextlib.suppress(OSError):
         sys.stderr.write(f"git-objects: {text}\n")
         sys.stderr.flush()
 
 
 class ClientConnection(ConnectionHandler):
-    """One connection, and one `git cat-file` behind it."""
+    """One connection, and one `git cat-file` for it."""
 
     wbufsize = 1 << 16
     server: "Server"
@@ -151,7 +151,7 @@ class Server(AddressServer):
 
 
 def clone_of(repository: Repository, words: argparse.Namespace) -> PartialClone | None:
-    """The repository as a partial clone; None where it is a whole one."""
+    """The repository as a partial clone; None if it is a whole one."""
     remotes = repository.remotes()
     if not remotes:
         return None
@@ -160,7 +160,7 @@ def clone_of(repository: Repository, words: argparse.Namespace) -> PartialClone 
 
 
 def end_with_input(server: Server) -> None:
-    """So that whoever holds the input's other end never leaves a server behind, however it ends."""
+    """So that whoever holds the input's other end never leaves a server, however it ends."""
     while os.read(sys.stdin.fileno(), LONGEST_LINE):
         pass
     server.shutdown()
@@ -202,11 +202,11 @@ def parser() -> argparse.ArgumentParser:
     address.add_argument("--socket", metavar="PATH", help="a socket for this user alone, in the place of --port")
     found.add_argument("--tree", metavar="ID", type=tree_id, help="the id of the tree that is shown, if it is known")
     found.add_argument("--ahead", metavar="BYTES", type=number_of_bytes, default=AHEAD,
-                       help=f"fetch at most so many bytes before they are asked for; 0: none; {AHEAD} if left out")
+                       help=f"fetch at most this many bytes before they are asked for; 0: none; {AHEAD} if left out")
     found.add_argument("--silence", metavar="SECONDS", type=number_of_seconds, default=SILENCE,
-                       help=f"give a remote up after so long a silence; {SILENCE:g} if left out")
+                       help=f"give a remote up after this long a silence; {SILENCE:g} if left out")
     found.add_argument("--log", action="store_true",
-                       help="tell each id that is asked for, and each that is fetched, on standard error")
+                       help="print each id that is asked for, and each that is fetched, on standard error")
     found.add_argument("--with-input", action="store_true", help="end when standard input does")
     return found
 

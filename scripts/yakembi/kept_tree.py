@@ -3,7 +3,7 @@ though no branch has them any more: the overlay has changes alone, and `git gc` 
 overlay that was dematerialised has entries on objects of each tree that it ever stood on, so these are kept too.
 
 They are named by the overlay's path and its own name, which no other overlay has that comes to lie there. A link of
-that name, in the repository's folder `mount-git`, leads to the overlay: where it leads nowhere for long, they go. A
+that name, in the repository's directory `mount-git`, leads to the overlay: if it leads nowhere for long, they go. A
 repository that can't be written keeps nothing more.
 """
 
@@ -20,8 +20,8 @@ from yakembi.partial_clone import known_here
 REFS = "refs/mount-git/"
 TREE, COMMIT, EACH_TREE = "tree", "commit", "trees"
 LINKS = "mount-git"
-# How the name of a mark ends that says since when a link leads nowhere, and how long such a link stays, as where the
-# overlay lies on a disk that isn't there just now. Once it has stayed for so long a second mark says so, and the link
+# How the name of a mark ends that says since when a link leads nowhere, and how long such a link stays, as when the
+# overlay lies on a disk that isn't there just now. Once it has stayed for this long a second mark says so, and the link
 # goes some days after that one: a clock that was wrong for one mount sets one mark alone.
 MISSING, STILL_MISSING = ".missing", ".missing-still"
 SECONDS_KEPT, SECONDS_STILL_KEPT = 90 * 86_400, 7 * 86_400
@@ -47,7 +47,7 @@ def keep_commit(repository: Repository, own_name: pathlib.Path, commit: str | No
 
 def keep_trees(repository: Repository, own_name: pathlib.Path, trees: Sequence[str]) -> None:
     """The repository keeps these trees as long as the overlay is there, also once that stands on another one. A
-    Refusal, or an OSError, where it can't be written."""
+    Refusal, or an OSError, if it can't be written."""
     link = lead(repository.common_folder, own_name)
     for tree in trees:
         put_or_refuse(repository, link.name, f"{EACH_TREE}/{tree}", tree)
@@ -65,7 +65,7 @@ def keep_earlier(repository: Repository, name: str) -> None:
 
 
 def put(repository: Repository, name: str, kind: str, object_id: str) -> None:
-    """The repository keeps the object from now on; a line says so where it doesn't."""
+    """The repository keeps the object from now on; a line says so if it doesn't."""
     try:
         put_or_refuse(repository, name, kind, object_id)
     except Refusal as problem:
@@ -73,7 +73,7 @@ def put(repository: Repository, name: str, kind: str, object_id: str) -> None:
 
 
 def put_or_refuse(repository: Repository, name: str, kind: str, object_id: str) -> None:
-    """The same, with a Refusal where it doesn't."""
+    """The same, with a Refusal if it doesn't."""
     if object_id not in known_here(repository, {object_id}):
         # A partial clone keeps by itself what it is given, and another repository has nothing of it.
         return
@@ -83,7 +83,7 @@ def put_or_refuse(repository: Repository, name: str, kind: str, object_id: str) 
 
 
 def tell_of_lacked(repository: Repository, overlay: OverlayFolder, tree: str) -> None:
-    """Tells which trees the repository lacks on which the overlay stood before that one, as a clone made anew those
+    """Names the trees that the repository lacks on which the overlay stood before that one, as a clone made anew those
     that nobody pushed. What a partial clone lacks its remote may have."""
     before = overlay.stood_on() - {tree}
     if before and not repository.remotes() and (lacked := sorted(before - repository.known(before))):
@@ -105,7 +105,7 @@ def let_go_of(repository: Repository, link: pathlib.Path) -> None:
 
 
 def lead(common: str, own_name: pathlib.Path) -> pathlib.Path:
-    """The repository's link to the overlay, made where it isn't there."""
+    """The repository's link to the overlay, made if it isn't there."""
     link = link_to(common, own_name)
     link.parent.mkdir(exist_ok=True)
     if not link.is_symlink():
@@ -133,7 +133,7 @@ def is_forgotten(link: pathlib.Path) -> bool:
 
 
 def is_older(mark: pathlib.Path, seconds: int) -> bool:
-    """Whether the mark was made so long ago; one that isn't there is made now."""
+    """Whether the mark was made this long ago; one that isn't there is made now."""
     if mark.exists():
         return mark.stat().st_mtime < time.time() - seconds
     mark.parent.mkdir(exist_ok=True)

@@ -27,7 +27,7 @@ from yakembi.git import Refusal, said
 from yakembi.standing import standing_still
 
 CACHE_ENTRIES = 65_536
-# The kind of a mount of ours, as the kernel tells it with all others; and where it has a folder for each connection.
+# The kind of a mount of ours, as the kernel lists it with all others; and where it has a folder for each connection.
 KIND = b"fuse.mount-git"
 MOUNTS = pathlib.Path("/proc/self/mountinfo")
 CONNECTIONS = pathlib.Path("/sys/fs/fuse/connections")
@@ -38,7 +38,7 @@ MS_NOSUID, MS_NODEV, MNT_FORCE, MNT_DETACH = 2, 4, 1, 2
 OPTIONS = ["default_permissions", "max_read=65536"]
 # How long a mount that is unmounted may take to end before who asked for that is told.
 SECONDS_TO_CLOSE = 60
-# By it the C library is told how to allocate.
+# By it the C library learns how to allocate.
 TUNABLES = "GLIBC_TUNABLES"
 # How long a signal may go unheeded that comes in an unlucky moment.
 SECONDS_UNHEEDED = 1
@@ -49,7 +49,7 @@ Result = TypeVar("Result")
 
 
 class Mount(NamedTuple):
-    """A mount as the kernel tells it: its path, the number of its device, its kind, and what it is of."""
+    """A mount as the kernel lists it: its path, the number of its device, its kind, and what it is of."""
 
     path: bytes
     number: int
@@ -119,7 +119,7 @@ def mount_by_helper(folder: str) -> int:
 
 
 def unmount(folder: str) -> None:
-    """Takes the folder's mount away, also where it is in use or dead; what isn't mounted stays as it is."""
+    """Takes the folder's mount away, also if it is in use or dead; what isn't mounted stays as it is."""
     if os.geteuid() == 0:
         LIBC.umount2(os.fsencode(folder), MNT_DETACH)
     else:
@@ -136,7 +136,7 @@ def unmount_unused(folder: str) -> bool:
 def abort(folder: str, known: Control | None = None) -> None:
     """Ends the connection of our mount at the folder, or else the one that was known, so that mountd ends also while a
     program has a file open, or another namespace the mount; of what else the folder lies on nothing is ended. This
-    takes the kernel's file of the connection, which is there where fusectl is mounted; without it root can do so at the
+    takes the kernel's file of the connection, which is there if fusectl is mounted; without it root can do so at the
     folder, and for others nothing happens."""
     control = control_of(folder) or known
     with contextlib.suppress(OSError):
@@ -150,7 +150,7 @@ def abort(folder: str, known: Control | None = None) -> None:
 
 
 def control_of(folder: str) -> Control | None:
-    """What ends the connection of our mount at the folder; None where ours isn't there, or fusectl."""
+    """What ends the connection of our mount at the folder; None if ours isn't there, or fusectl."""
     found = last_at(folder)
     if found is not None and is_of_us(found):
         file = CONNECTIONS / str(found.number) / "abort"
@@ -193,13 +193,13 @@ def is_own(folder: str) -> bool:
 
 def connection_of(folder: str) -> int | None:
     """The number by which the kernel names the connection of the last mount at the folder, if a `mount-git` made it;
-    None where none is."""
+    None if none is."""
     found = last_at(folder)
     return found.number if found is not None and found.kind == KIND else None
 
 
 def mounted_inside(folder: str) -> str | None:
-    """The last mount below the folder, whose path has no links; None where none is."""
+    """The last mount below the folder, whose path has no links; None if none is."""
     below = [found.path for found in mounts() if found.path.startswith(os.fsencode(folder) + b"/")]
     return os.fsdecode(below[-1]) if below else None
 
@@ -233,7 +233,7 @@ class Shown:
         finally:
             os.close(descriptor)
         try:
-            # It is answered once the mount is open, or where somebody unmounted it; or fails once mountd ended.
+            # It is answered once the mount is open, or if somebody unmounted it; or fails once mountd ended.
             os.stat(folder)
         except OSError:
             unmount(folder)
@@ -247,7 +247,7 @@ class Shown:
         with self.child.stderr:
             end = select.poll()
             end.register(self.child.stderr)
-            # A signal that comes just before the wait is heeded behind it.
+            # A signal that comes just before the wait is heeded after it.
             while not end.poll(1_000 * SECONDS_UNHEEDED):
                 pass
             lines = self.child.stderr.read().decode(errors="replace").splitlines()
@@ -255,7 +255,7 @@ class Shown:
         return lines[-1] if status in WITH_A_LINE and lines else f"mountd ended with status {status}"
 
     def wait(self) -> str | None:
-        """Waits until it ended, after an unmount or without; what it said, where that wasn't its good end."""
+        """Waits until it ended, after an unmount or without; what it said, if that wasn't its good end."""
         said = self.last_words()
         unmount(self.folder)
         return None if self.child.returncode == 0 else said
@@ -274,14 +274,14 @@ class Showing:
         self.words = [os.fspath(mountd), "fuse", "--root", root, *[str(word) for word in source], "--overlay", overlay,
                       "--cache-entries", str(CACHE_ENTRIES), "--since", str(since), "--threads", str(threads)]
         self.folder = folder
-        # As the kernel tells it. To look for links in it later could take an answer of mountd's.
+        # As the kernel lists it. To look for links in it later could take an answer of mountd's.
         self.place = os.path.realpath(folder)
         self.seconds_locked = seconds_locked
         self.is_ended = False
         # Whoever has it may put another mountd in the place of the one that shows the folder.
         self.turn = threading.Lock()
         self.shown: Shown | None = None
-        # What ends the connection of the mount, also where that isn't at the folder any more.
+        # What ends the connection of the mount, also if that isn't at the folder any more.
         self.control: Control | None = None
         # Set once the last mountd has ended; `fault` is what was wrong with that.
         self.done = threading.Event()
@@ -363,8 +363,8 @@ class Showing:
                 return work()
 
     def leave(self, what_to_do: str) -> None:
-        """Unmounts the folder. A Refusal, where it is in use, which says what to do then, or what is mounted in it.
-        `Ends`, where somebody else unmounted it, or ends the mount."""
+        """Unmounts the folder. A Refusal, if it is in use, which says what to do then, or what is mounted in it.
+        `Ends`, if somebody else unmounted it, or ends the mount."""
         with contextlib.suppress(OSError):
             # Answered after the closes before it, of which the last one of a removed file takes that away.
             os.statvfs(self.folder)
@@ -401,9 +401,9 @@ class Showing:
         return descriptor
 
     def finish(self, by_force: bool) -> None:
-        """Unmounts the folder, by force also where it is in use, and waits until mountd has closed the overlay.
-        `Unclosed`, if it isn't closed well. A `Refusal`, if that takes long, as where something holds the mount that
-        can't be told from here."""
+        """Unmounts the folder, by force also if it is in use, and waits until mountd has closed the overlay.
+        `Unclosed`, if it isn't closed well. A `Refusal`, if that takes long, as when something holds the mount that
+        can't be said from here."""
         with self.turn:
             if by_force:
                 self.end()
@@ -426,7 +426,7 @@ class Showing:
         self.is_ended = True
         if is_own(self.place):
             unmount_unused(self.folder)
-        # Where it is in use it goes on, and where another namespace has it too.
+        # If it is in use it runs on, and if another namespace has it too.
         abort(self.place, self.control)
         if is_own(self.place):
             unmount(self.folder)

@@ -1,8 +1,8 @@
 """Shows a commit of a Git repository as a folder, through FUSE, without checking it out.
 
-What is read is fetched when it is first read. What is changed is kept in the overlay, a folder from which the next
-mount goes on; without one, changes are gone with the mount. Ctrl-C, SIGTERM, SIGHUP and `fusermount3 -u FOLDER` end
-it. What a killed mount left on the folder is unmounted first.
+What is read is fetched when it is first read. What is changed is kept in the overlay, a directory from which the
+next mount continues; without one, changes are gone with the mount. Ctrl-C, SIGTERM, SIGHUP and `fusermount3 -u FOLDER`
+end it. What a killed mount left on the folder is unmounted first.
 
 It needs Debian's package fuse3, and mountd, which `make run` builds.
 """
@@ -35,18 +35,18 @@ from yakembi.overlay import Noted, OverlayFolder, make_folder, refuse_moved_from
 from yakembi.partial_clone import AHEAD
 from yakembi.programs import add_mountd, check_text, run_mountd, source_of
 
-# A mountd whose folder was just unmounted still closes the overlay, and has it for so long; and so does the run that
+# A mountd whose folder was just unmounted still closes the overlay, and has it for this long; and so does the run that
 # showed it, and has the folder's socket.
 SECONDS_LOCKED = 10
 SECONDS_BETWEEN_TRIES = 0.05
-# .. and so often where it takes longer.
+# .. and so often if it takes longer.
 SECONDS_BETWEEN_LATER_TRIES = 1
 # Who waits longer for mountd to open an overlay is told.
 SECONDS_TO_OPEN = 3.0
 SLOW = "isn't open yet: after a kill all its files are looked at, which takes some seconds for thousands"
-# As many requests are answered at once where objects may have to be fetched from elsewhere, and nobody says how many.
+# As many requests are answered at once if objects may have to be fetched from elsewhere, and nobody says how many.
 THREADS = 4
-# How long a branch that was moved from elsewhere may go unnoticed, and where nothing can be said, as while the
+# How long a branch that was moved from elsewhere may go unnoticed, and if nothing can be said, as while the
 # repository is away.
 SECONDS_BETWEEN_LOOKS, MOST_BETWEEN_LOOKS = 0.5, 30.0
 UNOPENED = {
@@ -62,7 +62,7 @@ GIT_FOLDERS = ("branches", "common", "hooks", "info", "logs", "modules", "object
                "rr-cache", "worktrees")
 # A disk that has no more bytes is full: a directory that is stored may be longer.
 FULL = 1 << 16
-# What mountd ends with where a file that was open couldn't be stored; the overlay is closed all the same.
+# What mountd ends with if a file that was open couldn't be stored; the overlay is closed all the same.
 UNSTORED = "mountd: store "
 ENDED_EARLY = "it was ended before it was mounted"
 # What `mountd repair` is for.
@@ -130,7 +130,7 @@ def check_hides_nothing(folder: str, repository: Repository) -> None:
 
 @contextlib.contextmanager
 def overlay_at(path: str | None, repository: Repository) -> Iterator[OverlayFolder]:
-    """The overlay's folder; a temporary one where none is named, which the repository forgets in the end."""
+    """The overlay's directory; a temporary one if none is named, which the repository forgets in the end."""
     with contextlib.ExitStack() as stack:
         is_named = path is not None
         if path is None:
@@ -147,7 +147,7 @@ def overlay_at(path: str | None, repository: Repository) -> Iterator[OverlayFold
 
 
 def tell_of_unnamed(repository: Repository, folder: GitFolder) -> None:
-    """Tells of the commit that was made in a folder that goes, where no branch has it."""
+    """Names the commit that was made in a folder that goes, if no branch has it."""
     found = folder.head_says(repository)
     if found is not None and found.commit is not None and found.branch is None and len(folder.logged()) != 1:
         done = repository.git("rev-list", "-n1", found.commit, "--not", "--branches", "--remotes", "--tags")
@@ -191,7 +191,7 @@ def tree_to_show(repository: Repository, revision: str, overlay: OverlayFolder) 
 
 
 def with_commit(repository: Repository, git: GitFolder, noted: Noted, commit: str | None) -> Noted:
-    """The note of a folder that stands on that commit from now on; but where Git worked in it for another repository,
+    """The note of a folder that stands on that commit from now on; but if Git worked in it for another repository,
     of which this one knows nothing, the note names the commit that it named."""
     return noted if git.is_strange_to(repository, noted.tree, noted.commit) else noted._replace(commit=commit)
 
@@ -254,23 +254,23 @@ class Asked:
         return self.facts()
 
     def facts(self) -> Fields:
-        """The repository, the overlay, a path of that which is gone with the mount, the tree that changes are told
+        """The repository, the overlay, a path of that which is gone with the mount, the tree that changes are listed
         against, and what the folder stands on."""
         return {"repository": os.path.abspath(self.repository.path), "overlay": self.overlay.path,
                 "held": self.overlay.held_path(), "tree": self.noted().tree, **self.stand()._asdict()}
 
     def stand(self) -> Stand:
-        """What the folder stands on. Where Git worked in it, its HEAD says that, and the note follows. A branch that
+        """What the folder stands on. If Git worked in it, its HEAD says that, and the note follows. A branch that
         it was on until then is told once."""
         found = self.look()
         left, self.left = self.left, None
         return found._replace(left=left)
 
     def look(self) -> Stand:
-        """What the folder stands on, and where it isn't on a branch any more, that is kept until it is told."""
+        """What the folder stands on, and if it isn't on a branch any more, that is kept until it is told."""
         noted, found = self.noted(), None
         if self.git.is_strange_to(self.repository, noted.tree, noted.commit):
-            # That has the tree, and goes on with nothing that Git has there.
+            # That has the tree, and continues with nothing that Git has there.
             return Stand(None, None)
         if self.git.is_at(noted.tree):
             self.left = self.git.adopt(self.repository, noted.commit) or self.left
@@ -279,7 +279,7 @@ class Asked:
             self.note(noted._replace(commit=found.commit))
         self.left = (found.left if found else None) or self.left
         if found is None and noted.commit is not None and self.repository.commit_id(noted.commit) is None:
-            # As where the repository is another one, that has the tree.
+            # As when the repository is another one, that has the tree.
             return Stand(None, None)
         return found or Stand(noted.commit, self.branch)
 
@@ -345,7 +345,7 @@ def ends_told(overlay: OverlayFolder) -> Iterator[None]:
 
 
 def said_of_disk(overlay: str) -> str:
-    """What a line about the overlay ends with, where its disk is full."""
+    """What a line about the overlay ends with, if its disk is full."""
     with contextlib.suppress(OSError):
         found = os.statvfs(overlay)
         # Some disks have no number of files.
@@ -356,7 +356,7 @@ def said_of_disk(overlay: str) -> str:
 
 @contextlib.contextmanager
 def reachable(showing: kernel.Showing, answers: Answers, is_to_stay: bool) -> Iterator[threading.Lock]:
-    """Answers other runs, but while somebody has the lock; where they can't reach this one the folder is shown all the
+    """Answers other runs, but while somebody has the lock; if they can't reach this one the folder is shown all the
     same. One that showed the folder before may still end: it is waited for a little, and once it has ended this one
     answers all the same."""
     turn, done = threading.Lock(), threading.Event()
@@ -401,7 +401,7 @@ def is_taken(problem: Refusal | OSError | None) -> bool:
 
 @contextlib.contextmanager
 def watched(asked: Asked, turn: threading.Lock) -> Iterator[None]:
-    """Looks at the branch that the folder is on, as long as the block runs: where somebody else moves it the folder
+    """Looks at the branch that the folder is on, as long as the block runs: if somebody else moves it the folder
     leaves it, before Git begins anything on what it doesn't show."""
     done = threading.Event()
     def watch() -> None:
@@ -441,7 +441,7 @@ def shown_till_the_end(showing: kernel.Showing) -> Iterator[None]:
 
 @contextlib.contextmanager
 def told_if_slow(line: str) -> Iterator[None]:
-    """Tells the line once, where the block isn't soon done."""
+    """Prints the line once, if the block isn't soon done."""
     timer = threading.Timer(SECONDS_TO_OPEN, tell, [line])
     timer.start()
     try:
@@ -494,7 +494,7 @@ def unopened(word: str, overlay: str, repair: str) -> Refusal:
 
 
 def make_absolute(words: argparse.Namespace) -> None:
-    """The places that are named are still these, where we go elsewhere, or our folder is gone."""
+    """The places that are named are still these, if we go elsewhere, or our folder is gone."""
     words.repository = os.path.abspath(words.repository)
     if words.overlay is not None:
         words.overlay = os.path.abspath(words.overlay)
@@ -533,21 +533,22 @@ def parser() -> argparse.ArgumentParser:
                                     formatter_class=argparse.RawDescriptionHelpFormatter)
     found.add_argument("repository", metavar="REPO", help="the Git repository")
     found.add_argument("revision", metavar="REV", help="a commit, or a tree, as HEAD:folder")
-    found.add_argument("folder", metavar="FOLDER", help="where it is shown; made where it isn't there")
+    found.add_argument("folder", metavar="FOLDER", help="where it is shown; made if it isn't there")
     found.add_argument("--overlay", metavar="DIR", help="where changes are kept")
     add_mountd(found)
     found.add_argument("--ahead", metavar="BYTES", type=number_of_bytes, default=AHEAD,
-                       help="of a partial clone, fetch at most so many bytes before a program asks for them: "
-                       f"subfolders, and other files of a folder whose files are read; 0: none; {AHEAD} if left out")
+                       help="of a partial clone, fetch at most this many bytes before a program asks for them: "
+                       "subdirectories, and other files of a directory whose files are read; 0: none; "
+                       f"{AHEAD} if left out")
     found.add_argument("--kernel", action="store_true",
                        help="has no effect any more: mountd always speaks the kernel's protocol itself")
     found.add_argument("--threads", metavar="N", type=number_of_threads,
                        help=f"how many requests are answered at once; if left out {THREADS} of a partial clone, "
                             "with --log and for a path that is no UTF-8, and else 1")
     found.add_argument("--background", metavar="FILE",
-                       help="go on in the background once it is mounted, and write to the end of that file what there "
-                       "is to tell")
-    found.add_argument("--log", action="store_true", help="tell each object that is fetched on standard error")
+                       help="run on in the background once it is mounted, and write to the end of that file what there "
+                       "is to report")
+    found.add_argument("--log", action="store_true", help="print each object that is fetched on standard error")
     return found
 
 
@@ -579,7 +580,7 @@ def main() -> int:
         sys.stdout.reconfigure(errors="surrogateescape")
     command, parsed = COMMANDS.get("".join(sys.argv[1:2]), (run, parser))
     words = parsed().parse_args(sys.argv[1 if command is run else 2 :])
-    # What is held is let go, also where a terminal is closed.
+    # What is held is released, also if a terminal is closed.
     ending.exit_at(signal.SIGTERM, signal.SIGHUP)
     if command is run:
         ending.exit_at(signal.SIGINT)

@@ -1,8 +1,8 @@
-"""Writes the objects of one Git commit into a folder that `mountd --objects` serves.
+"""Writes the objects of one Git commit into a directory that `mountd --objects` serves.
 
 Each tree, blob and link of the commit becomes the file DIR/xx/yyyy.., framed and uncompressed, where xxyyyy.. is its
 id. A submodule's commit is not written: it shows as an empty directory. An object that is in DIR already is left
-alone where its file is as long as it says; --verify reads it whole and compares its digest. What is cut or damaged is
+alone if its file is as long as it says; --verify reads it whole and compares its digest. What is cut or damaged is
 written again. REV may also name a tree, as HEAD:folder. The last line printed is the id of the tree, which `mountd
 --root` takes.
 """
@@ -86,7 +86,7 @@ def is_running(process: int) -> bool:
 
 
 class Progress:
-    """A count on standard error, where that is a terminal."""
+    """A count on standard error, if that is a terminal."""
 
     def __init__(self) -> None:
         self.shown = sys.stderr.isatty()
@@ -185,7 +185,7 @@ def parser() -> argparse.ArgumentParser:
     found.add_argument("repository", metavar="REPO")
     found.add_argument("revision", metavar="REV")
     found.add_argument("folder", metavar="DIR",
-                       help="the folder of objects (write -- before a name that begins with -)")
+                       help="the directory of objects (write -- before a name that begins with -)")
     return found
 
 

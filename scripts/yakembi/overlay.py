@@ -1,12 +1,12 @@
-"""An overlay's folder, as a mount of a Git commit finds and leaves it: whose it is, and on which tree it stands.
+"""An overlay's directory, as a mount of a Git commit finds and leaves it: whose it is, and on which tree it stands.
 
 The files whose names are numbers are mountd's, and so are `lock` and `journal`. The file `mount-git` beside them is
-ours: who holds its lock has the overlay, also while mountd is closed and opened again, and its line tells the tree, the
+ours: who holds its lock has the overlay, also while mountd is closed and opened again, and its line names the tree, the
 time of what comes from it, and on which commit the next one of the folder's is put. Since its lock is held no other
 file takes its place. Each line is as long as the one before it, in one sector of a disk, and is written over that at
 once: whatever is killed or fails, the old line or the new one is read.
 
-The file `trees`, which is ours too, tells each tree on which the overlay ever stood, a line each, once it was
+The file `trees`, which is ours too, names each tree on which the overlay ever stood, a line each, once it was
 dematerialised: something in it may still come from each. An overlay of before that was kept has none.
 """
 
@@ -53,7 +53,7 @@ class InUse(Refusal):
 
 
 def refuse_moved_from(path: str) -> None:
-    """A Refusal, where a folder that lay at this path was moved or removed while a `mountd fuse` has it, which finds
+    """A Refusal, if a folder that lay at this path was moved or removed while a `mountd fuse` has it, which finds
     its files by the path: two would write into one folder."""
     for process in pathlib.Path("/proc").glob("[0-9]*"):
         # One that ended, or is another user's, has none of ours.
@@ -68,7 +68,7 @@ def refuse_moved_from(path: str) -> None:
 
 class Noted(NamedTuple):
     """The tree that an overlay stands on, the seconds of what comes from it (the commit's time, or that of the last
-    `dematerialise`), and the commit, where one is known: the mounted one, or the last that was made of what the overlay
+    `dematerialise`), and the commit, if one is known: the mounted one, or the last that was made of what the overlay
     shows."""
 
     tree: str
@@ -94,7 +94,7 @@ def is_held(path: str | os.PathLike[str]) -> bool:
 
 
 def make_folder(path: str | os.PathLike[str]) -> None:
-    """Makes it where it isn't there. What is there and is no folder, as a link that leads nowhere, is told as such."""
+    """Makes it if it isn't there. What is there and is no folder, as a link that leads nowhere, is reported as such."""
     try:
         os.makedirs(path, exist_ok=True)
     except FileExistsError as problem:
@@ -102,7 +102,7 @@ def make_folder(path: str | os.PathLike[str]) -> None:
 
 
 def check_ours(path: str | os.PathLike[str]) -> None:
-    """A Refusal, where the folder has something, and nothing of an overlay, as a working directory of somebody's."""
+    """A Refusal, if the folder has something, and nothing of an overlay, as a working directory of somebody's."""
     names = set(os.listdir(path)) - {LOST_AND_FOUND}
     if names and names.isdisjoint(KNOWN_BY) and not any(map(NUMBERED.fullmatch, names)):
         raise Refusal(f"{os.fspath(path)} is no overlay, and isn't empty")
@@ -122,7 +122,7 @@ def sync_names(folder: str | os.PathLike[str]) -> None:
 
 
 class OverlayFolder:
-    """The folder, made where it isn't there, and held until `close`."""
+    """The folder, made if it isn't there, and held until `close`."""
 
     def __init__(self, path: str | os.PathLike[str]) -> None:
         make_folder(path)
@@ -141,7 +141,7 @@ class OverlayFolder:
             opened.pop_all()
 
     def hold(self) -> None:
-        """Takes the note's lock. `InUse`, where another run has it; an OSError, where the system gives none."""
+        """Takes the note's lock. `InUse`, if another run has it; an OSError, if the system gives none."""
         for _ in range(TRIES):
             with contextlib.suppress(BlockingIOError):
                 fcntl.flock(self.note, fcntl.LOCK_EX | fcntl.LOCK_NB)
@@ -166,12 +166,12 @@ class OverlayFolder:
         return {name: os.stat(os.path.join(self.path, name)).st_size for name in names}
 
     def noted(self) -> Noted | None:
-        """What we wrote down; None where we didn't."""
+        """What we wrote down; None if we didn't."""
         line = NOTE_LINE.match(os.pread(self.note, NOTE_BYTES, 0))
         return Noted(line[1].decode(), int(line[2]), line[3].decode() if line[3] else None) if line else None
 
     def write_note(self, noted: Noted) -> None:
-        """Writes it down, and waits until the disk has it. An OSError where that fails: then what was there is still
+        """Writes it down, and waits until the disk has it. An OSError if that fails: then what was there is still
         there, or this is."""
         if noted == self.noted():
             return
@@ -218,12 +218,12 @@ class OverlayFolder:
         return Refusal(f"the overlay {self.path} stands on the tree {tree}, which the repository lacks")
 
     def state_root(self) -> str | None:
-        """The tree that file 0 names, which a clean close leaves; None where there is none."""
+        """The tree that file 0 names, which a clean close leaves; None if there is none."""
         data = self.file(STATE)
         return data[HEADER : HEADER + ID].hex() if len(data) > HEADER + ID and data.startswith(FILE_HEADS) else None
 
     def file(self, name: str | int) -> bytes:
-        """A file's bytes; none where it can't be read, since it is mountd that tells what is wrong with an overlay."""
+        """A file's bytes; none if it can't be read, since it is mountd that says what is wrong with an overlay."""
         try:
             with open(os.path.join(self.path, str(name)), "rb") as file:
                 return file.read()

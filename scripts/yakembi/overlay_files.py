@@ -28,10 +28,10 @@ JOURNAL = "journal"
 STORED, BODY, PART, PARTS, REMOVED, ELSEWHERE = b"OVJS", b"OVJD", b"OVJP", b"OVJM", b"OVJR", b"OVJE"
 RECORD_BYTES, PART_BYTES, COUNT_BYTES, LENGTH_BYTES = 48, 28, 4, 8
 BODY_MOST = 4 << 20
-# How many bytes stand behind the fields of each sort of record at most.
+# How many bytes stand after the fields of each sort of record at most.
 MOST_BEHIND = {STORED: 128 << 10, BODY: BODY_MOST, PART: PART_BYTES + BODY_MOST,
                PARTS: LENGTH_BYTES + 2 * PART_BYTES + BODY_MOST, REMOVED: 0, ELSEWHERE: 0}
-# So many records tell one body at most: all of it, and then what has changed.
+# This many records give one body at most: all of it, and then what has changed.
 RECORDS_MOST = 256
 STATE_NUMBER = 0
 
@@ -41,7 +41,7 @@ OBJECT, OWN, EMPTY = range(3)
 
 
 class Entry(NamedTuple):
-    """An entry of a directory's file; the id is that of an object's, where it comes from one."""
+    """An entry of a directory's file; the id is that of an object's, if it comes from one."""
 
     kind: int
     origin: int
@@ -83,7 +83,7 @@ def file_bytes(identifier: bytes, body: bytes) -> bytes:
 
 
 def old_file_bytes(identifier: bytes, body: bytes) -> bytes:
-    """The same as version 1 has it, which tells nothing of the body."""
+    """The same as version 1 has it, which says nothing of the body."""
     return identifier + OLD_VERSION.to_bytes(4, "big") + bytes(HEADER_BYTES - LENGTH_AT) + body
 
 
@@ -190,7 +190,7 @@ def state_of(data: bytes) -> tuple[str, int]:
 
 
 def stored(folder: pathlib.Path) -> dict[int, bytes]:
-    """The files of a folder by their numbers, with its journal over them; other names are passed over.
+    """The files of a directory by their numbers, with its journal over them; other names are passed over.
 
     A journal beside the state is from before that, and says nothing any more.
     """
@@ -209,7 +209,7 @@ def stored(folder: pathlib.Path) -> dict[int, bytes]:
 
 
 def records(journal: bytes) -> Iterator[tuple[bytes, int, bytes]]:
-    """The records of a journal up to the first that isn't whole: which each is, its number, what stands behind its
+    """The records of a journal up to the first that isn't whole: which each is, its number, what stands after its
     fields. Whether a part fits the body before it isn't looked at."""
     at = 0
     while len(journal) - at >= RECORD_BYTES:
@@ -226,7 +226,7 @@ def records(journal: bytes) -> Iterator[tuple[bytes, int, bytes]]:
 
 
 class Told(NamedTuple):
-    """The body of a directory as a journal tells it: where the last of so many records begins, and the body."""
+    """The body of a directory as a journal gives it: where the last of this many records begins, and the body."""
 
     at: int
     records: int
@@ -234,7 +234,7 @@ class Told(NamedTuple):
 
 
 def with_part(body: bytes, part: bytes) -> bytes | None:
-    """What a part makes of a body; None where it doesn't fit."""
+    """What a part makes of a body; None if it doesn't fit."""
     if len(part) < PART_BYTES or len(body) < COUNT_BYTES:
         return None
     _, front, back = struct.unpack_from(">QQQ", part)
@@ -254,7 +254,7 @@ def parts_of(sort: bytes, data: bytes) -> list[bytes]:
 
 
 def with_change(before: Told | None, at: int, sort: bytes, data: bytes) -> Told | None:
-    """What a record makes of the body before it; None where it doesn't fit."""
+    """What a record makes of the body before it; None if it doesn't fit."""
     parts = parts_of(sort, data)
     if before is None or before.records >= RECORDS_MOST or parts[0][:8] != before.at.to_bytes(8, "big"):
         return None
@@ -266,7 +266,7 @@ def with_change(before: Told | None, at: int, sort: bytes, data: bytes) -> Told 
 
 
 def changes(journal: bytes) -> dict[int, bytes | None]:
-    """What a journal says of each number; None where its file was removed."""
+    """What a journal says of each number; None if its file was removed."""
     said: dict[int, bytes | None] = {}
     bodies: dict[int, Told] = {}
     at = 0

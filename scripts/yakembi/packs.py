@@ -13,7 +13,7 @@ KINDS = {b"tree": 2, b"blob": 3}
 
 
 def objects_in(folder: pathlib.Path) -> list[pathlib.Path]:
-    """The files of a folder of framed objects."""
+    """The files of a directory of framed objects."""
     return sorted(path for path in folder.glob("??/*") if path.is_file())
 
 

@@ -3,7 +3,7 @@
 What is asked for within some milliseconds goes into one question, and what is asked for meanwhile into the next. What
 is likely to be asked for next comes along in another one beside it: with a tree its subtrees; once blobs of one folder
 are asked for one after another, others of that folder; and once folders that lie side by side are gone through, what is
-below those behind them. Such a guess is bounded in bytes and in time, and what fails of it is asked for like anything
+below those after them. Such a guess is bounded in bytes and in time, and what fails of it is asked for like anything
 else. So a remote that fails costs what is asked for alone.
 """
 
@@ -23,12 +23,12 @@ from yakembi.git import Objects, Refusal, Remote, Repository, environment
 
 # How long one who asks first waits for others, in seconds; and how long at most, while something is brought already.
 GATHERING, LONGEST_GATHERING = 0.005, 0.1
-# How long one whose folder isn't known waits for trees that come or are read, in seconds: so long at least, as long as
-# its question took, and so long at most, since mountd waits for all of it.
+# How long one whose folder isn't known waits for trees that come or are read, in seconds: as long as its question took,
+# but at least the first and at most the second, since mountd waits for all of it.
 READING, LONGEST_READING = 1.0, 5.0
-# How many bytes a guess may bring; and to how many that falls where guesses take too long.
+# How many bytes a guess may bring; and to how many that falls if guesses take too long.
 AHEAD, LEAST_AHEAD = 16 << 20, 1 << 16
-# How long a remote may say nothing, and how long a guess may take; mountd waits for 30 s. Behind one that took less
+# How long a remote may say nothing, and how long a guess may take; mountd waits for 30 s. After one that took less
 # than the last the next may bring twice as much again.
 SILENCE, LONGEST_GUESS, SHORT_GUESS = 15.0, 8.0, 2.0
 # How long nothing of a folder is guessed after a guess that failed, in seconds.
@@ -43,12 +43,12 @@ TREE_BYTES = 1_024
 PIECE = 500
 # What names an object.
 ID = re.compile("[0-9a-f]{40}")
-# Each brings a pack, and after so many Git may put them together, as it does after its own fetches.
+# Each brings a pack, and after this many Git may put them together, as it does after its own fetches.
 QUESTIONS_BETWEEN_MAINTENANCE = 50
 
 
 class Unreachable(Exception):
-    """The remote can't be asked, which was told already."""
+    """The remote can't be asked, which was said already."""
 
 
 class Plain:
@@ -122,7 +122,7 @@ class Want:
 
 
 def known_here(repository: Repository, ids: set[str]) -> set[str]:
-    """Those objects that are there, of which nothing is fetched; all of them if that can't be told. What is no id is
+    """Those objects that are there, of which nothing is fetched; all of them if that can't be said. What is no id is
     none."""
     ids = {object_id for object_id in ids if ID.fullmatch(object_id)}
     if not repository.remotes():
@@ -147,7 +147,7 @@ class PartialClone:
                  log: Callable[[str], object] = lambda _: None) -> None:
         self.repository = repository
         self.remotes = remotes
-        # How much a guess brings: at most the bound, and less where that takes too long.
+        # How much a guess brings: at most the bound, and less if that takes too long.
         self.most_ahead = self.ahead = ahead
         self.silence = silence
         self.tell = tell
@@ -219,7 +219,7 @@ class PartialClone:
         return asked
 
     def bring_all(self, ids: list[str]) -> None:
-        """Asks each remote in turn for what isn't there, and tells those who wait."""
+        """Asks each remote in turn for what isn't there, and answers those who wait."""
         lacking, nowhere = ids, set[str]()
         try:
             # What came by a guess since it was looked for isn't asked for again.
@@ -312,7 +312,7 @@ class PartialClone:
     def guess_behind(self, folder: Folder, are_trees: bool) -> bool:
         """Under the lock: whether folders that lie side by side are gone through, and this one is the next.
 
-        Then the trees or blobs below it and below those behind it will be on their way.
+        Then the trees or blobs below it and below those after it will be on their way.
         """
         walks = list(self.folders.walks(folder, are_trees)) if self.ahead else []
         for above, place in walks:
@@ -356,9 +356,9 @@ class PartialClone:
             self.guess(above, ids, are_trees, usual_bytes)
 
     def folder_of(self, object_id: str, seconds: float = 0.0) -> Folder | None:
-        """The folder of a blob that is asked for. Where that is found only now it counts as asked for now.
+        """The folder of a blob that is asked for. If that is found only now it counts as asked for now.
 
-        So long it waits, where trees are read in which it may be found.
+        This long it waits, if trees are read in which it may be found.
         """
         with self.lock:
             folder = self.folders.of(object_id)
@@ -370,7 +370,7 @@ class PartialClone:
         return folder
 
     def look_up(self, object_id: str, seconds: float) -> Folder | None:
-        """The folder of a blob in the trees that are there, for which it waits so long; those that weren't read yet are
+        """The folder of a blob in the trees that are there, for which it waits this long; those not read yet are
         from now on.
 
         So it is with a file of a folder that an overlay has, or whose tree was read by somebody else: nobody asks here

@@ -31,7 +31,7 @@ def add_mountd(parser: argparse.ArgumentParser) -> None:
 def run_mountd(output: int | BinaryIO, *words: str | os.PathLike[str],
                held: Sequence[int] = ()) -> subprocess.CompletedProcess[bytes]:
     """A run of mountd, by these words, whose output goes there, and which holds locks of these descriptors as long as
-    it runs, also where we are killed. A Refusal with what it said, where it doesn't end well."""
+    it runs, also if we are killed. A Refusal with what it said, if it doesn't end well."""
     try:
         done = subprocess.run(words, stdin=subprocess.DEVNULL, stdout=output, stderr=subprocess.PIPE, pass_fds=held)
     except FileNotFoundError as problem:
@@ -42,14 +42,14 @@ def run_mountd(output: int | BinaryIO, *words: str | os.PathLike[str],
 
 
 def check_text(overlay: str) -> None:
-    """A Refusal, where mountd can't be told the overlay's path."""
+    """A Refusal, if mountd can't be given the overlay's path."""
     if not is_text(overlay):
         raise Refusal("the overlay's path isn't UTF-8, as mountd's words are")
 
 
 @contextlib.contextmanager
 def source_of(repository: Repository, root: str, ahead: int, log: bool) -> Iterator[list[str]]:
-    """Where mountd has its objects from: the repository itself; a git-objects, where objects are to be fetched or told,
+    """Where mountd has its objects from: the repository itself; a git-objects, if objects are to be fetched or printed,
     or the repository's path is no text, as mountd's words are."""
     folder = repository.common_folder
     if not repository.remotes() and not log and is_text(folder):
@@ -71,7 +71,7 @@ def objects_at(path: str, repository: str, root: str, ahead: int, log: bool) -> 
             raise Refusal("git-objects ended before it served")
         yield path
     finally:
-        # It ends what it has started; where that takes too long it is ended as it stands.
+        # It ends what it has started; if that takes too long it is ended as it stands.
         child.stdin.close()
         with contextlib.suppress(subprocess.TimeoutExpired):
             child.wait(SECONDS_TO_END)

@@ -2,7 +2,7 @@
 changed, to commit it, to switch branches. Git asks the mount what was changed, and looks at nothing else.
 
 Its branches, objects and settings are the repository's. Its index and HEAD lie in the overlay, and those of the
-repository's own working directory stay as they are. Words behind the folder are Git's: mount-git git FOLDER commit -a.
+repository's own working directory stay as they are. Words after the folder are Git's: mount-git git FOLDER commit -a.
 With --environment nothing is run, and lines for a shell are printed by which other programs use Git so:
 eval "$(mount-git git --environment FOLDER)". With --dot-git the folder has a .git, and all programs use Git there.
 """
@@ -64,7 +64,7 @@ def fsmonitor(words: argparse.Namespace) -> None:
 
     It prints the paths at which Git has to look: what was changed since the tree that the overlay stands on, what the
     index has otherwise than that one, and what was told to have been changed.
-    Where it fails Git looks at every file.
+    If it fails Git looks at every file.
     """
     if "GIT_DIR" not in os.environ:
         raise Refusal("GIT_DIR isn't set: this is for Git, which sets it")

@@ -1,6 +1,6 @@
 """Whether a whole tree gives every reply in one order of what several clients asked, done one at a time.
 
-Each client's own order is kept. Where the times of sending and hearing are known, a request that was answered before
+Each client's own order is kept. If the times of sending and hearing are known, a request that was answered before
 another was sent comes before it. A fault changes nothing, and may come anywhere. A request that was never answered may
 have been done, or not. The table of operations is tree_model's.
 
@@ -8,8 +8,8 @@ The search takes what needs no choice at once: a fault, a look or an error that 
 path at, above or below one that others have still to ask about. Such a request that isn't answered as told ends the way
 at once. Among the rest, changes that may come next, it tries each, and remembers the states that it came to.
 
-A `stat` tells the inode number of what stands there. The first one gives it, and any that isn't spent will do; from
-then on it is that one. So a `stat` that gives a number needs no choice only where no other client has still to ask for
+A `stat` gives the inode number of what stands there. The first one gives it, and any that isn't spent will do; from
+then on it is that one. So a `stat` that gives a number needs no choice only if no other client has still to ask for
 what could put something else at its path.
 """
 
@@ -77,7 +77,7 @@ class Nodes(dict[Path, Node]):
             self.changes[path] = node
 
     def back_to(self, count: int) -> None:
-        """As they were after the first so many steps."""
+        """As they were after this many steps."""
         while len(self.was) > count:
             self.put(*self.was.pop())
 
@@ -156,7 +156,7 @@ class State(NamedTuple):
 
 
 class Search:
-    """Looks for an order of the requests of each of these clients, from these nodes and, where they are given, to those
+    """Looks for an order of the requests of each of these clients, from these nodes and, if they are given, to those
     that were seen in the end."""
 
     def __init__(self, clients: Sequence[Sequence[Asked]], nodes: Mapping[Path, Node],
@@ -224,12 +224,12 @@ class Search:
         return len(self.nodes.was), len(self.numbers.was)
 
     def undo(self, steps: Steps) -> None:
-        """Nodes and numbers as they were after the first so many steps."""
+        """Nodes and numbers as they were after this many steps."""
         self.nodes.back_to(steps[0])
         self.numbers.back_to(steps[1])
 
     def take(self, client: int) -> bool:
-        """Does the client's next request, where it is answered as told; whether it is."""
+        """Does the client's next request, if it is answered as told; whether it is."""
         asked, before = self.asked(client), self.steps()
         unheard = asked.word in LOOKS and asked.reply is None
         if not is_fault(asked) and not unheard:
@@ -252,7 +252,7 @@ class Search:
     # ---- what needs no choice
 
     def settle(self) -> bool:
-        """Takes what may as well come first; whether the way goes on."""
+        """Takes what may as well come first; whether the way continues."""
         moved = True
         while moved:
             moved = False
@@ -295,7 +295,7 @@ class Search:
         return rows
 
     def run(self) -> list[int] | None:
-        """An order, as the clients whose turn it is; None where there is none."""
+        """An order, as the clients whose turn it is; None if there is none."""
         branches = [self.branch()]
         while branches:
             if self.is_done():

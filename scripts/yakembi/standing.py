@@ -1,7 +1,7 @@
 """mountd stands still between two messages, so that its overlay's files show what was answered, and nothing half done.
 
 It is stopped and looked at. If each of its threads waits for the next message, for an object that its message needs, or
-for another thread, it stays so for a while; else it goes on, and is tried again. What waits for an object has changed
+for another thread, it stays so for a while; else it runs on, and is tried again. What waits for an object has changed
 nothing for its message yet, but for a rename over an open file, which is two changes. Should this program be killed
 meanwhile, the kernel wakes mountd: a process group that is stopped, and that nobody of its session has started any
 more, is sent SIGHUP and SIGCONT.
@@ -17,11 +17,11 @@ from collections.abc import Iterator
 
 from yakembi.git import Refusal
 
-# How long it may be at work each time that it is looked at, and how long it goes on between two looks, at first and at
+# How long it may be at work each time that it is looked at, and how long it runs on between two looks, at first and at
 # most.
 SECONDS_BUSY = 60.0
 SECONDS_BETWEEN, MOST_BETWEEN = 0.002, 0.05
-# As /proc tells the call in which a thread stands: read(2), by which messages come, recvfrom(2), by which objects come,
+# As /proc shows the call in which a thread stands: read(2), by which messages come, recvfrom(2), by which objects come,
 # and futex(2). On another machine these are the numbers of other calls.
 MACHINE = "x86_64"
 READ, RECEIVE, FUTEX = "0", "45", "202"
@@ -43,7 +43,7 @@ def is_waiting(call: str) -> bool:
 
 
 def is_between_messages(process: int) -> bool:
-    """Whether no thread of a stopped process is at work. A Refusal, where that can't be told."""
+    """Whether no thread of a stopped process is at work. A Refusal, if that can't be said."""
     machine = os.uname().machine
     if machine != MACHINE:
         raise Refusal(f"what mountd is at can be told on {MACHINE} alone, and this is {machine}")
@@ -58,7 +58,7 @@ def is_between_messages(process: int) -> bool:
 
 @contextlib.contextmanager
 def standing_still(child: subprocess.Popen[bytes]) -> Iterator[None]:
-    """The child does nothing in the block, and is at no message. A Refusal, where it is at work all the time, or has
+    """The child does nothing in the block, and is at no message. A Refusal, if it is at work all the time, or has
     ended."""
     end, pause = time.monotonic() + SECONDS_BUSY, SECONDS_BETWEEN
     while True:

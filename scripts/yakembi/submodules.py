@@ -1,7 +1,7 @@
 """Submodules that Git has filled in a mounted folder, and places that they name.
 
-The repository of each lies below the overlay's folder `git`, in `modules`, and says where its working tree is
-(`core.worktree`); there a file `.git` says where the repository is, each from where it lies itself. Where the mounted
+The repository of each lies below the overlay's directory `git`, in `modules`, and says where its working tree is
+(`core.worktree`); there a file `.git` says where the repository is, each from where it lies itself. If the mounted
 folder or the overlay lies elsewhere than before, both are put right.
 """
 
@@ -17,7 +17,7 @@ WORKTREE = "core.worktree"
 
 
 def put_right(git_folder: pathlib.Path, was_at: str, top: str, was_top: str) -> None:
-    """What was right while the overlay's folder lay at `was_at`, and the mounted one at `was_top`."""
+    """What was right while the overlay's directory lay at `was_at`, and the mounted one at `was_top`."""
     for module in modules_in(git_folder):
         old_module = os.path.join(was_at, os.path.relpath(module, git_folder))
         told = config(module, "--get", WORKTREE)

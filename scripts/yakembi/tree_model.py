@@ -5,7 +5,7 @@ from the repository's own definition, so that the two can be compared. A path is
 
     ("file", executable, content)    ("link", content)    ("dir", listed)
 
-A content is bytes, or None where it is lost. `reply` gives the text of the reply, or None where there is none, since
+A content is bytes, or None if it is lost. `reply` gives the text of the reply, or None if there is none, since
 the request looks into a lost content or a directory whose entries are not known, or no inode number is left.
 """
 
@@ -18,7 +18,7 @@ from yakembi.client import name_text
 Path = tuple[bytes, ...]
 Node = tuple[Any, ...]
 Nodes = dict[Path, Node]
-# The fields of a request behind its word.
+# The fields of a request after its word.
 Values = tuple[Any, ...]
 Names = list[bytes]
 Paths = list[Path]
@@ -54,7 +54,7 @@ def known(content: bytes | None) -> bytes:
 
 
 class Numbers:
-    """The inode numbers that were told, by path, and those that are spent, with a way back."""
+    """The inode numbers that were given, by path, and those that are spent, with a way back."""
 
     def __init__(self, given: Mapping[Path, int] | None = None, following: int = FIRST_NUMBER) -> None:
         """Those that stored files show, by path, and the one that is given next: all below it are spent."""
@@ -68,7 +68,7 @@ class Numbers:
         return max(FIRST_NUMBER, self.following) <= number < END_OF_NUMBERS and number not in self.spent
 
     def may_tell(self, path: Path, number: int) -> bool:
-        """Whether a `stat` of what stands there may tell it: the one it has, or any that is left."""
+        """Whether a `stat` of what stands there may give it: the one it has, or any that is left."""
         return self.given[path] == number if path in self.given else self.is_left(number)
 
     def pick(self, path: Path) -> int:
@@ -114,7 +114,7 @@ class Numbers:
             self.put(target + path[len(source) :], number)
 
     def follow(self, word: str, fields: Values, reply: bytes) -> bool:
-        """Whether a reply tells no number, or one that it may tell. They go on by the request and that reply."""
+        """Whether a reply has no number, or one that it may have. They continue by the request and that reply."""
         told = number_told(reply)
         if told is not None and not self.may_tell(fields[0], told):
             return False
@@ -127,7 +127,7 @@ class Numbers:
         return True
 
     def back_to(self, count: int) -> None:
-        """As they were after the first so many steps."""
+        """As they were after this many steps."""
         while len(self.was) > count:
             path, number, spent = self.was.pop()
             self.set(path, number)
@@ -189,7 +189,7 @@ class WholeTree:
         return b"kind " + self.kind_word(self.present(path))
 
     def stat(self, path: Path, told: int | None = None) -> bytes:
-        """It tells the number that was told, where that may be told; else the one given, or the least that is left."""
+        """It gives the number that was given, if that may be so; else the one given, or the least that is left."""
         node = self.present(path)
         size = 0 if node[0] == "dir" else len(known(node[-1]))
         may = told is not None and self.numbers.may_tell(path, told)
@@ -223,7 +223,7 @@ class WholeTree:
         return self.puts(LONGEST_FILE, path, offset, data)
 
     def puts(self, most: int, path: Path, offset: int, data: bytes) -> bytes:
-        """At most so many bytes, put into a file."""
+        """At most this many bytes, put into a file."""
         need(len(data) <= most, "EINVAL")
         _, executable, old = self.file_at(path)
         if not data:
@@ -310,7 +310,7 @@ class WholeTree:
         return b"ok"
 
     def reply(self, word: str, *fields: Any) -> bytes | None:
-        """The text of the reply to a request; None where there is none."""
+        """The text of the reply to a request; None if there is none."""
         try:
             found: bytes = getattr(self, word)(*fields)
             return found
@@ -321,7 +321,7 @@ class WholeTree:
             return None
 
     def judged(self, told: bytes | None, word: str, *fields: Any) -> bytes | None:
-        """The same where the reply was told: a `stat` tells the number of that one, where it may."""
+        """The same if the reply was told: a `stat` gives the number of that one, if it may."""
         return self.reply(word, *fields, *([number_told(told)] if word == "stat" and told is not None else []))
 
 
