@@ -40,8 +40,8 @@ fn settle<W: World, T: Attempts<W>>(
     }
 }
 
-/// Nothing is kept any more. It stands apart, since whoever replaces a place clears a kilobyte first, which takes longer
-/// than most looks.
+/// Nothing is kept any more. It stands apart, since a body that replaces a place clears a kilobyte first, which takes
+/// longer than a look does.
 #[inline(never)]
 fn forget<P: Drop>(place: &mut Option<P>)
     ensures { place.new ≡ None }
