@@ -1,17 +1,21 @@
 -- Where the root comes from, once something was done.
-use Rattle.std.proofs.Common.{◌≡◌, ℕ, Bool, true, false, if◌then◌else◌, [], ◌∷◌, Result, Ok, Err, OnOk, OnErr, refl, sym, ap, ◌∙◌, inl, inr}
+use Rattle.std.proofs.Common.{◌≡◌, ℕ, Bool, true, false, if◌then◌else◌, MatchBool, [], ◌∷◌, Option, Some, Result, Ok, Err, OnOk, OnErr, refl, sym, ap, ◌∙◌, inl, inr}
 use Rattle.std.proofs.lemmas.Option.{same_Some}
 use Rattle.eden_model.specs.declared.fault.Fault.{Fault}
 use Rattle.eden_model.specs.declared.kind.Origin.{Origin}
 use Rattle.eden_model.specs.Trees.{Name, Path}
+use Rattle.eden_overlay_format.specs.Directory.{is_own}
 use Rattle.eden_overlay.specs.Files.{Stored}
-use Rattle.eden_tree.specs.Directory.{Row, Directory}
-use Rattle.eden_tree.specs.Paths.{Standing, standing}
+use Rattle.eden_tree.specs.Directory.{Row, Directory, child_of}
+use Rattle.eden_tree.specs.Paths.{Standing, standing, row_at}
 use Rattle.eden_coupling.specs.Chains.{IsLoadedAt, chained}
-use Rattle.eden_coupling.specs.Changing.{with_listing}
+use Rattle.eden_coupling.specs.Changing.{with_listing, changed}
+use Rattle.eden_coupling.specs.Filing.{HasFile}
 use Rattle.eden_coupling.specs.Laws.{owned}
 use Rattle.eden_coupling.proofs.CallerLemmas.{loaded_found}
 use Rattle.eden_materialise.specs.EntryMoves.{IsMoved, IsUnmoved}
+use Rattle.eden_materialise.specs.Fills.{OwnsFile}
+use Rattle.eden_materialise.specs.Listings.{PutsEntry}
 use Rattle.eden_materialise.specs.Puts.{AtDirectory}
 use Rattle.eden_ops.specs.Changes.{StaysOrBecomesOwn}
 use Rattle.eden_ops.specs.Laws.{Grows}
@@ -49,6 +53,16 @@ pub root_filled : (a : Result (Unit {0}) Fault) (own : Bool) (p : Path) (x z : R
 root_filled (Ok u) true p x z e ok err = root_same x z ok
 root_filled (Ok u) false p x z e ok err = inr (ap (λ (r : Row). r.origin) ok)
 root_filled (Err f) own p x z e ok err = root_same x z err
+
+as_chained : (own : Bool) (p : Path) (n : Name) (o : Option Row) (x z y : Row) (d : Directory) → row_at p x ≡ Some y → child_of y ≡ Some d
+    → MatchBool own (z ≡ x) (PutsEntry p n o x z) → z ≡ (if own then x else chained p (changed d n o) x)
+as_chained true p n o x z y d at h same = same
+as_chained false p n o x z y d at h put = put y d at h
+
+pub owned_root : (a : Result (Unit {0}) Fault) (p : Path) (n : Name) (x z w : Row) (has : HasFile x p n w) → OnOk a (OwnsFile p n x z)
+    → OnOk a (z ≡ (if is_own w.origin then x else chained p (changed has.directory n (Some (owned w))) x))
+owned_root (Ok u) p n x z w has owns = as_chained (is_own w.origin) p n (Some (owned w)) x z has.row has.directory has.at has.holds (owns w has)
+owned_root (Err e) p n x z w has owns = tt
 
 -- they became so, or that failed
 pub root_owned : (a : Result (Unit {0}) Fault) (x y z : Row) → OnOk a (z ≡ owned y) → OnErr a (z ≡ x) → StaysOrBecomesOwn x.origin z.origin

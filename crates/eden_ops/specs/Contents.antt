@@ -1,5 +1,6 @@
 -- The content of a file or a link, and what is made of it.
 use Rattle.std.specs.Prelude.{◌≡◌, ◌≢◌, ◌≤◌, ◌<◌, ◌+◌, ℕ, List, length, Some, None}
+use Rattle.eden_model.specs.declared.id.Id.{Id}
 use Rattle.eden_model.specs.declared.kind.Kind.TheVariants as kind
 use Rattle.eden_model.specs.declared.kind.Origin.{Origin}
 use Rattle.eden_model.specs.declared.world.World.{Ghosts}
@@ -33,6 +34,11 @@ pub record IsFileAt (p : Path) (x y : Row) : Type 0 where
 abbrev pub made : Form → List ℕ → List ℕ
 made (form.Written offset bytes) content = written offset bytes.now content
 made (form.Resized size) content = resized size content
+
+-- where the outside is honest these are bytes of that blob, from an offset on and at most so many
+abbrev pub IsPartOfBlob : {W : Type 0} → Ghosts W → Id → ℕ → ℕ → List ℕ → Type 0
+IsPartOfBlob w id offset count bytes = (content : List ℕ) × ((w.honest → w.repository.blob id ≡ Some content)
+    × ((length content ≤ most_file) × (bytes ≡ part offset count content)))
 
 -- some bytes are written, and up to the longest content at most
 abbrev pub Fits : Form → Type 0

@@ -1,13 +1,11 @@
 //! Contents of files and links.
 ghost use Rattle.std.specs.Prelude.{◌≡◌, ◌≤◌, ◌^◌, ◌∷◌, [], ℕ, List, length, Some, None, IfOk, IfErr, IfSome};
-ghost use Rattle.std.specs.Prelude.{MatchOption};
+ghost use Rattle.std.specs.Prelude.{IfNone};
 ghost use Rattle.eden_model.specs.declared.id.ObjKind.TheVariants as objects;
-ghost use Rattle.eden_model.specs.Limits.{most_file};
 ghost use Rattle.eden_inode.specs.Tables.{shows};
 ghost use Rattle.eden_ops.specs.Attempts.{Lacks};
 ghost use Rattle.eden_cache.specs.Stock.{FindsTheSame, object_at};
-ghost use Rattle.eden_overlay.specs.Files.{part};
-ghost use Rattle.eden_ops.specs.Contents.{HasContent, IsPart};
+ghost use Rattle.eden_ops.specs.Contents.{HasContent, IsPart, IsPartOfBlob};
 ghost use Rattle.eden_ops.specs.Keeping.{Keeps};
 
 use crate::laws::keeps_laws;
@@ -27,11 +25,9 @@ fn cached_part<W: World, C: Allocator + Clone>(
     count: u64,
 ) -> Result<Option<Bytes>, AllocError>
     ensures finds { FindsTheSame cache.old cache.new }
-    ensures part { IfOk result
-        (λ o. MatchOption o (object_at cache.old (record { kind = objects.Blob; id = id }) ≡ None)
-        (λ b. (content : List ℕ)
-        × ((W.honest → W.repository.blob id ≡ Some content)
-        × ((length content ≤ most_file) × (b ≡ part offset count content))))) }
+    ensures lacks { IfOk result
+        (λ o. IfNone o (object_at cache.old (record { kind = objects.Blob; id = id }) ≡ None)) }
+    ensures part { IfOk result (λ o. IfSome o (IsPartOfBlob W.World id offset count)) }
     ensures bounded { IfOk result (λ o. IfSome o (λ b. length b ≤ count)) }
 {
     cache_laws();

@@ -12,7 +12,7 @@ use Rattle.eden_ops.specs.Changes.{SameNames}
 use Rattle.eden_inode.specs.Tables.{shows}
 use Rattle.eden_inode.proofs.CallerLemmas.{places_same}
 use Rattle.eden_ops.proofs.Changing.{has_file, file_alone, put_alone}
-use Rattle.eden_ops.proofs.Roots.{root_filled}
+use Rattle.eden_ops.proofs.Roots.{root_filled, owned_root}
 use Rattle.eden_ops.proofs.Saving.{leaves_by, no_less, stored_count}
 use Rattle.eden_ops.proofs.Settled.{row_still, settles_leaves, leaves_then, saved_on, on_ok}
 use Rattle.eden_ops.proofs.Seeing.{kept_dirs}
@@ -62,7 +62,7 @@ returns g c =
     let split = sym c.as_slice.ensures ∙ c.in-Some.ensures.cases.0 in
     let there = row_still s.root v.root e.alike p h.0 h.1.there h.1.unloaded in
     let file = has_file p above name v.root h.0 split there h.1.unloaded h.1.file in
-    let ok = x.ok h.0 file file.row file.directory file.at file.holds in
+    let ok = owned_root c.store_content.result above name v.root t.root h.0 file x.ok in
     let root = root_filled c.store_content.result (is_own h.0.origin) above v.root t.root (changed file.directory name (Some (owned h.0))) ok x.atomic.err in
     let counted = stored_count c.store_content.result (g.F.Files.failures v.files) (g.F.Files.failures t.files) x.atomic.fault x.counted in
     record {
@@ -71,13 +71,13 @@ returns g c =
           let still = row_still s.root v.root e.alike p y at.there at.unloaded in
           on_ok_weaker c.store_content.result
           (λ shown.
-          shown
+          shown y (has_file p above name v.root y split still at.unloaded at.file)
           ∙ ap (λ (q : Path). graft q content (shows g.W.World g.F.Files v)) (sym split)
           ∙ ap (graft p content) (e.readies.shown h)
           ∙ put_alone (shows g.W.World g.F.Files s) p content
           (λ n r. file_alone c.shown_laws.ensures.below R (g.F.Files.stored s.files) p s.root y (kept_dirs R (g.F.Files.stored s.files) s.root s.next (c.holds.ensures.kept h)) at.there at.file n r)
           (λ n r. refl))
-          (x.shown h y (has_file p above name v.root y split still at.unloaded at.file));
+          (x.shown h);
       unseen = λ h. on_err_weaker c.store_content.result (λ is. is ∙ e.readies.shown h) (x.atomic.unseen h);
       numbers = λ h q. x.numbers h q ∙ e.readies.numbers h q;
       names = on_err_weaker c.store_content.result (λ is. subst (SameNames s.root) (sym is) e.readies.names) x.atomic.err;
