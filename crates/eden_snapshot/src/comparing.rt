@@ -10,14 +10,13 @@ ghost use Rattle.eden_snapshot.specs.Exact.{TellsExactly, TellsTruly};
 
 use crate::change::{Change, Stand, change_of};
 use crate::commit::tree_entries;
-use crate::fault::{SnapshotFault, fault_of};
+use crate::fault::{SnapshotFault, fault_of, of_sink};
 use crate::rows::{Row, rows_of};
-use crate::sink::SinkFault;
 use crate::trail::Trail;
-use crate::walk::{LEVELS, mode_of, stored_entries};
+use crate::walk::{LEVELS, is_rooted, mode_of, stored_entries};
 use eden_model::{Id, Kind, Mode, Name, Origin, TreeEntry, World};
 use eden_object::{encode_blob, id_of};
-use eden_overlay::{Files, Overlay, ROOT_NUMBER};
+use eden_overlay::{Files, FilesFault, Overlay, ROOT_NUMBER};
 use eden_overlay_format::StoredEntry;
 use eden_source::Source;
 use std::alloc::Global;
@@ -30,7 +29,7 @@ pub trait ChangeSink<W: World> {
     ghost use Rattle.std.specs.Prelude.{◌≡◌, ◌∷◌, ◌++◌, [], ℕ, List, Err, OnOk, OnErr};
     ghost use Rattle.eden_model.specs.Failures.{Counted};
     ghost use Rattle.eden_snapshot.specs.Changes.{Told};
-    ghost use Rattle.eden_snapshot.specs.declared.sink.SinkFault.TheVariants.{Device};
+    ghost use Rattle.eden_overlay.specs.declared.files.FilesFault.TheVariants.{Device};
 
     /// The changes that it was told, in the order in which they came.
     ghost told: { Self → List Told };
@@ -39,7 +38,7 @@ pub trait ChangeSink<W: World> {
     ghost failures: { Self → ℕ };
 
     /// Is told of a change at that path.
-    fn tell(&mut self, alloc: Global, path: &[Name], change: Change) -> Result<(), SinkFault>
+    fn tell(&mut self, alloc: Global, path: &[Name], change: Change) -> Result<(), FilesFault>
         ensures ok { W.honest → OnOk result (told self.new ≡ told self.old ++ (path.now, change) ∷ []) }
         ensures err { W.honest → OnErr result (told self.new ≡ told self.old) }
         ensures counted { Counted (result ≡ Err Device) (failures self.old) (failures self.new) };
@@ -74,7 +73,7 @@ pub fn changes<W: World, F: Files<W>, S: Source<W>, C: ChangeSink<W>>(
         (TellsTruly W.repository root (F.stored overlay.old) (C.told sink.old) (C.told sink.new)) }
     ensures unchanged { W.honest → F.stored overlay.new ≡ F.stored overlay.old }
 {
-    if !overlay.is_rooted()? {
+    if !is_rooted(overlay)? {
         return Ok(());
     }
     let entries = entries_of::<W, S>(alloc, source, root)?;
@@ -234,13 +233,13 @@ fn tell<W: World, C: ChangeSink<W>>(
     sink: &mut C,
     trail: &Trail,
     change: Option<Change>,
-) -> Result<(), SinkFault>
+) -> Result<(), SnapshotFault>
     ensures ok { W.honest → OnOk result (C.told sink.new ≡ C.told sink.old ++ told_of trail.now change) }
     ensures err { W.honest → OnErr result (C.told sink.new ≡ C.told sink.old) }
 {
     match change {
         None => Ok(()),
-        Some(change) => sink.tell(alloc, trail.as_slice(), change),
+        Some(change) => sink.tell(alloc, trail.as_slice(), change).map_err(of_sink),
     }
 }
 

@@ -3,7 +3,6 @@
 ghost use Rattle.std.specs.Prelude.{◌≡◌};
 ghost use Rattle.eden_snapshot.specs.declared.fault.SnapshotFault.TheVariants as fault;
 
-use crate::sink::SinkFault;
 use eden_model::Cause;
 use eden_overlay::{FilesFault, GetFault};
 use eden_overlay_format::Refusal;
@@ -50,21 +49,21 @@ pub(crate) fn fault_of(number: u64, fault: GetFault) -> SnapshotFault {
     }
 }
 
-impl From<FilesFault> for SnapshotFault {
-    fn from(e: FilesFault) -> SnapshotFault {
-        match e {
-            FilesFault::Device => SnapshotFault::Device,
-            FilesFault::Memory => SnapshotFault::Memory,
-        }
+// There is no `From<FilesFault>`: the same fault says another thing of the overlay than of a sink.
+
+// The fault of the overlay's files.
+pub(crate) fn of_files(fault: FilesFault) -> SnapshotFault {
+    match fault {
+        FilesFault::Device => SnapshotFault::Device,
+        FilesFault::Memory => SnapshotFault::Memory,
     }
 }
 
-impl From<SinkFault> for SnapshotFault {
-    fn from(e: SinkFault) -> SnapshotFault {
-        match e {
-            SinkFault::Device => SnapshotFault::Sink,
-            SinkFault::Memory => SnapshotFault::Memory,
-        }
+// The fault of a sink.
+pub(crate) fn of_sink(fault: FilesFault) -> SnapshotFault {
+    match fault {
+        FilesFault::Device => SnapshotFault::Sink,
+        FilesFault::Memory => SnapshotFault::Memory,
     }
 }
 

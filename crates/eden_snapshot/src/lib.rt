@@ -28,6 +28,6 @@ pub use comparing::{ChangeSink, changes};
 pub use fault::SnapshotFault;
 pub use left_out::LeftOut;
 pub use memory::MemorySink;
-pub use sink::{Sink, SinkFault};
+pub use sink::Sink;
 pub use submodules::{NoSubmodules, Submodules};
 pub use walk::{LEVELS, snapshot};

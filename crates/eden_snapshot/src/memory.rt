@@ -1,8 +1,9 @@
 ghost use Rattle.std.specs.Prelude.{◌≡◌, IfOk};
 
 use crate::left_out::LeftOut;
-use crate::sink::{Sink, SinkFault};
+use crate::sink::Sink;
 use eden_model::{Name, World};
+use eden_overlay::FilesFault;
 use std::alloc::{AllocError, Global};
 use std::marker::Model;
 
@@ -59,13 +60,13 @@ impl<W: World> Sink<W> for MemorySink {
 
     ghost failures = { λ _. 0 };
 
-    fn put(&mut self, alloc: Global, framed: &[u8]) -> Result<(), SinkFault> {
+    fn put(&mut self, alloc: Global, framed: &[u8]) -> Result<(), FilesFault> {
         let framed = Vec::from_slice(alloc, framed)?;
         self.objects.push(framed)?;
         Ok(())
     }
 
-    fn leave_out(&mut self, alloc: Global, path: &[Name], why: LeftOut) -> Result<(), SinkFault> {
+    fn leave_out(&mut self, alloc: Global, path: &[Name], why: LeftOut) -> Result<(), FilesFault> {
         let path = copied(alloc, path)?;
         self.omissions.push((path, why))?;
         Ok(())

@@ -1,8 +1,8 @@
 //! A snapshot of closed files.
 
-ghost use Rattle.std.specs.Prelude.{◌≡◌, ◌∷◌, [], IfOk, OnOk};
+ghost use Rattle.std.specs.Prelude.{◌≡◌, ◌∷◌, [], IfOk, OnOk, is_some};
 ghost use Rattle.eden_model.specs.Repository.{Repository, Whole};
-ghost use Rattle.eden_overlay.specs.Held.{HoldsEntries};
+ghost use Rattle.eden_overlay.specs.Held.{HoldsEntries, root_file};
 ghost use Rattle.eden_snapshot.specs.Ordering.{GrowsInOrder};
 ghost use Rattle.eden_snapshot.specs.Pruning.{IsPruned};
 ghost use Rattle.eden_snapshot.specs.Showing.{FilesShow};
@@ -11,7 +11,7 @@ ghost use Rattle.eden_snapshot.specs.Written as spec;
 ghost use Rattle.eden_snapshot.specs.Written.{HandedContent, HandedTree, IsSubmodule, StandsFor};
 ghost use Rattle.eden_snapshot.specs.Written.{Writes, WritesDirectory, WritesTop, entries_with};
 
-use crate::fault::{SnapshotFault, fault_of};
+use crate::fault::{SnapshotFault, fault_of, of_files, of_sink};
 use crate::left_out::LeftOut;
 use crate::sink::Sink;
 use crate::submodules::Submodules;
@@ -45,7 +45,7 @@ pub fn snapshot<W: World, F: Files<W>, S: Sink<W>, M: Submodules<W>>(
         (λ _. GrowsInOrder (F.stored overlay.old) (S.filled sink.old).kept (S.filled sink.new).kept) }
     ensures unchanged { W.honest → F.stored overlay.new ≡ F.stored overlay.old }
 {
-    if !overlay.is_rooted()? {
+    if !is_rooted(overlay)? {
         return Ok(root);
     }
     let mut trail = Trail::new(alloc);
@@ -59,6 +59,16 @@ pub fn snapshot<W: World, F: Files<W>, S: Sink<W>, M: Submodules<W>>(
         LEVELS,
     )?;
     hand_tree(alloc, sink, ROOT_NUMBER, entries.as_slice())
+}
+
+// Whether the root is the mount's own.
+pub(crate) fn is_rooted<W: World, F: Files<W>>(
+    overlay: &mut Overlay<W, F>,
+) -> Result<bool, SnapshotFault>
+    ensures told { W.honest → IfOk result (λ b. b ≡ is_some (root_file (F.stored overlay.old))) }
+    ensures unchanged { W.honest → F.stored overlay.new ≡ F.stored overlay.old }
+{
+    overlay.is_rooted().map_err(of_files)
 }
 
 // How Git tells that kind.
@@ -86,7 +96,7 @@ fn hand_tree<W: World, S: Sink<W>>(
         return Err(SnapshotFault::TooLarge(number));
     }
     let framed = encode_tree(alloc, entries)?;
-    sink.put(alloc, framed.as_slice())?;
+    sink.put(alloc, framed.as_slice()).map_err(of_sink)?;
     Ok(id_of(framed.as_slice()))
 }
 
@@ -106,7 +116,7 @@ fn hand_content<W: World, F: Files<W>, S: Sink<W>>(
         Err(fault) => return Err(fault_of(number, fault)),
     };
     let blob = encode_blob(alloc, content.as_slice())?;
-    sink.put(alloc, blob.as_slice())?;
+    sink.put(alloc, blob.as_slice()).map_err(of_sink)?;
     Ok(id_of(blob.as_slice()))
 }
 
@@ -139,7 +149,8 @@ fn submodule<W: World, S: Sink<W>, M: Submodules<W>>(
     match submodules.at(alloc, trail.as_slice()) {
         Ok(Some(id)) => Ok(Some((Mode::Gitlink, id))),
         Ok(None) => {
-            sink.leave_out(alloc, trail.as_slice(), LeftOut::Submodule)?;
+            sink.leave_out(alloc, trail.as_slice(), LeftOut::Submodule)
+                .map_err(of_sink)?;
             Ok(None)
         }
         Err(cause) => Err(SnapshotFault::Object(cause)),
@@ -248,7 +259,8 @@ fn tree_of<W: World, F: Files<W>, S: Sink<W>, M: Submodules<W>>(
     }
     let below = directory(alloc, overlay, sink, submodules, trail, number, levels - 1)?;
     if below.is_empty() {
-        sink.leave_out(alloc, trail.as_slice(), LeftOut::Empty)?;
+        sink.leave_out(alloc, trail.as_slice(), LeftOut::Empty)
+            .map_err(of_sink)?;
         return Ok(None);
     }
     let id = hand_tree(alloc, sink, number, below.as_slice())?;

@@ -3,9 +3,9 @@ ghost use Rattle.std.specs.Prelude.{◌≡◌};
 ghost use Rattle.mountd.specs.Snapshots.{how_letter, mode_word, whole_word};
 
 use crate::path_text::path_text;
-use crate::sink::count;
 use eden_model::{Mode, Name, Outside};
-use eden_snapshot::{Change, ChangeSink, How, SinkFault};
+use eden_overlay::{FilesFault, count_failures};
+use eden_snapshot::{Change, ChangeSink, How};
 use std::alloc::Global;
 use std::io::{self, BufWriter, Write};
 
@@ -57,9 +57,9 @@ impl<W: Write + Drop> ChangeSink<Outside> for LineSink<W> {
 
     ghost failures = { λ s. s.failures };
 
-    fn tell(&mut self, alloc: Global, path: &[Name], change: Change) -> Result<(), SinkFault> {
+    fn tell(&mut self, alloc: Global, path: &[Name], change: Change) -> Result<(), FilesFault> {
         let answer = write_line(&mut self.writer, alloc, path, change);
-        self.failures = count(self.failures, &answer);
+        self.failures = count_failures(self.failures, &answer);
         answer
     }
 }
@@ -70,7 +70,7 @@ fn write_line<W: Write + Drop>(
     alloc: Global,
     path: &[Name],
     change: Change,
-) -> Result<(), SinkFault> {
+) -> Result<(), FilesFault> {
     let path = path_text(alloc, path)?;
     let how = how_letter(change.how);
     let mode = mode_word(change.mode);
@@ -78,7 +78,7 @@ fn write_line<W: Write + Drop>(
     let line = format!(in alloc; "{how} {mode} {path}{whole}\n")?;
     match writer.write_all(line.as_bytes()) {
         Ok(()) => Ok(()),
-        Err(_) => Err(SinkFault::Device),
+        Err(_) => Err(FilesFault::Device),
     }
 }
 

@@ -1,12 +1,9 @@
 //! Objects of a snapshot that go into a folder.
-ghost use Rattle.std.specs.Prelude.{◌≡◌, ◌≢◌, Err};
-ghost use Rattle.eden_model.specs.Failures.{one_more};
-ghost use Rattle.eden_snapshot.specs.declared.sink.SinkFault.TheVariants as sink;
-
 use crate::path_text::path_text;
 use eden_model::{Name, Outside};
 use eden_object_writer::{ImportFault, Store};
-use eden_snapshot::{LeftOut, Sink, SinkFault};
+use eden_overlay::{FilesFault, count_failures};
+use eden_snapshot::{LeftOut, Sink};
 use std::alloc::Global;
 use std::rt::Files;
 
@@ -36,18 +33,18 @@ impl<R: Files + Eprint> Sink<Outside> for FolderSink<R> {
 
     ghost failures = { λ s. s.failures };
 
-    fn put(&mut self, alloc: Global, framed: &[u8]) -> Result<(), SinkFault> {
+    fn put(&mut self, alloc: Global, framed: &[u8]) -> Result<(), FilesFault> {
         let answer = match self.store.put(alloc, framed) {
             Ok(_) => Ok(()),
-            Err(ImportFault::Memory) => Err(SinkFault::Memory),
-            Err(_) => Err(SinkFault::Device),
+            Err(ImportFault::Memory) => Err(FilesFault::Memory),
+            Err(_) => Err(FilesFault::Device),
         };
-        self.failures = count(self.failures, &answer);
+        self.failures = count_failures(self.failures, &answer);
         answer
     }
 
     /// Where standard error can't be written, nothing is told.
-    fn leave_out(&mut self, alloc: Global, path: &[Name], why: LeftOut) -> Result<(), SinkFault> {
+    fn leave_out(&mut self, alloc: Global, path: &[Name], why: LeftOut) -> Result<(), FilesFault> {
         let path = path_text(alloc, path)?;
         let _ = match why {
             LeftOut::Empty => eprintln!(self.rt; "mountd: left out {path}, an empty directory"),
@@ -58,16 +55,5 @@ impl<R: Files + Eprint> Sink<Outside> for FolderSink<R> {
             }
         };
         Ok(())
-    }
-}
-
-/// The count of failures after that answer.
-pub fn count(failures: u64, answer: &Result<(), SinkFault>) -> u64
-    ensures failed { answer.now ≡ Err sink.Device → result ≡ one_more failures }
-    ensures passed { answer.now ≢ Err sink.Device → result ≡ failures }
-{
-    match answer {
-        Err(SinkFault::Device) => failures.saturating_add(1),
-        _ => failures,
     }
 }

@@ -2,8 +2,8 @@
 //! `git cat-file tree` and `git diff-tree --no-renames` for the same two directories.
 use crate::snapshots::{CONTENT, DIRECTORY, InMemory, joined, named, put};
 use eden_model::{Cause, Mode, Name, Outside};
-use eden_overlay::{Files, MemoryFiles, Overlay};
-use eden_snapshot::{Change, ChangeSink, How, SinkFault, SnapshotFault, changes};
+use eden_overlay::{Files, FilesFault, MemoryFiles, Overlay};
+use eden_snapshot::{Change, ChangeSink, How, SnapshotFault, changes};
 use eden_source::MemorySource;
 use std::alloc::Global;
 use std::process::Abort;
@@ -127,9 +127,9 @@ impl ChangeSink<Outside> for Heard {
 
     ghost failures = { λ _. 0 };
 
-    fn tell(&mut self, _alloc: Global, path: &[Name], change: Change) -> Result<(), SinkFault> {
+    fn tell(&mut self, _alloc: Global, path: &[Name], change: Change) -> Result<(), FilesFault> {
         if self.count == self.room {
-            return Err(SinkFault::Memory);
+            return Err(FilesFault::Memory);
         }
         if is_told(self.count, path, change) {
             self.right = self.right.saturating_add(1);

@@ -19,7 +19,7 @@ returns-clause-told g c = λ h.
     let F = g.F.Files.stored c.args.overlay.now in
     let told = c.in_ok-is_rooted.ensures.told h in
     let some : is_some (root_file F) ≡ true = first_of (cc, search rules) in
-    all_told F (g.F.Files.stored c.is_rooted.new.self) g.W.World.repository c.args.root c.new-trail.result c.in_ok-entries.entries.items
+    all_told F (g.F.Files.stored c.is_rooted.new.overlay) g.W.World.repository c.args.root c.new-trail.result c.in_ok-entries.entries.items
     (g.C.ChangeSink.told c.args.sink.now) (g.C.ChangeSink.told c.directory.new.sink) (c.is_rooted.ensures.unchanged h) c.new-trail.ensures some
     (c.in_ok-entries.ensures h) (c.in_ok-directory.ensures.told h)
 
@@ -37,7 +37,7 @@ returns-clause-exact g c = λ h has.
     let told = c.in_ok-is_rooted.ensures.told h in
     let some : is_some (root_file F) ≡ true = first_of (cc, search rules) in
     exact g.W.World.repository F has c.args.root (g.C.ChangeSink.told c.args.sink.now) (g.C.ChangeSink.told c.directory.new.sink)
-    (all_told F (g.F.Files.stored c.is_rooted.new.self) g.W.World.repository c.args.root c.new-trail.result c.in_ok-entries.entries.items
+    (all_told F (g.F.Files.stored c.is_rooted.new.overlay) g.W.World.repository c.args.root c.new-trail.result c.in_ok-entries.entries.items
     (g.C.ChangeSink.told c.args.sink.now) (g.C.ChangeSink.told c.directory.new.sink) (c.is_rooted.ensures.unchanged h) c.new-trail.ensures some
     (c.in_ok-entries.ensures h) (c.in_ok-directory.ensures.told h))
 
@@ -47,6 +47,6 @@ returns-in_err-directory-clause-truly g c = λ h. whatever c.from_residual-in_er
     let told = c.in_ok-is_rooted.ensures.told h in
     let some : is_some (root_file F) ≡ true = first_of (cc, search rules) in
     truly g.W.World.repository F has c.args.root (g.C.ChangeSink.told c.args.sink.now) (g.C.ChangeSink.told c.directory.new.sink)
-    (all_so_far F (g.F.Files.stored c.is_rooted.new.self) g.W.World.repository c.args.root c.new-trail.result c.in_ok-entries.entries.items
+    (all_so_far F (g.F.Files.stored c.is_rooted.new.overlay) g.W.World.repository c.args.root c.new-trail.result c.in_ok-entries.entries.items
     (g.C.ChangeSink.told c.args.sink.now) (g.C.ChangeSink.told c.directory.new.sink) (c.is_rooted.ensures.unchanged h) c.new-trail.ensures some
     (c.in_ok-entries.ensures h) (c.in_err-directory.ensures.so_far h)))

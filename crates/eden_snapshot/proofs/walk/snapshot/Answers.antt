@@ -33,7 +33,7 @@ returns-clause-written g c = λ h.
     let some : is_some (root_file F) ≡ true = first_of (cc, search rules) in
     IfOk-weaker c.hand_tree.result _ _
     (λ id e.
-    own_top F (g.F.Files.stored c.is_rooted.new.self) K c.args.root id c.new-trail.result c.in_ok-entries.entries.items c.as_slice.result.now (g.S.Sink.filled c.args.sink.now)
+    own_top F (g.F.Files.stored c.is_rooted.new.overlay) K c.args.root id c.new-trail.result c.in_ok-entries.entries.items c.as_slice.result.now (g.S.Sink.filled c.args.sink.now)
     (g.S.Sink.filled c.directory.new.sink) (g.S.Sink.filled c.hand_tree.new.sink) (c.is_rooted.ensures.unchanged h) c.new-trail.ensures some (c.in_ok-entries.ensures.written h)
     c.as_slice.ensures.value e)
     (c.hand_tree.ensures h)
@@ -49,7 +49,7 @@ returns-clause-shown g c = λ h.
     IfOk-weaker c.hand_tree.result _ _
     (λ id e R has.
     top_pruned R F K c.args.root id old new
-    (own_top F (g.F.Files.stored c.is_rooted.new.self) K c.args.root id c.new-trail.result c.in_ok-entries.entries.items c.as_slice.result.now old
+    (own_top F (g.F.Files.stored c.is_rooted.new.overlay) K c.args.root id c.new-trail.result c.in_ok-entries.entries.items c.as_slice.result.now old
     (g.S.Sink.filled c.directory.new.sink) new (c.is_rooted.ensures.unchanged h) c.new-trail.ensures some (c.in_ok-entries.ensures.written h) c.as_slice.ensures.value e)
     has)
     (c.hand_tree.ensures h)
@@ -74,6 +74,6 @@ returns-clause-ordered g c = λ h.
     IfOk-weaker c.hand_tree.result _ _
     (λ id e.
     top_ordered F K c.args.root id old new
-    (own_top F (g.F.Files.stored c.is_rooted.new.self) K c.args.root id c.new-trail.result c.in_ok-entries.entries.items c.as_slice.result.now old
+    (own_top F (g.F.Files.stored c.is_rooted.new.overlay) K c.args.root id c.new-trail.result c.in_ok-entries.entries.items c.as_slice.result.now old
     (g.S.Sink.filled c.directory.new.sink) new (c.is_rooted.ensures.unchanged h) c.new-trail.ensures some (c.in_ok-entries.ensures.written h) c.as_slice.ensures.value e))
     (c.hand_tree.ensures h)
