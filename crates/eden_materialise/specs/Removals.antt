@@ -26,7 +26,7 @@ pub record HasEntry (x : Row) (p : Path) (n : Name) : Type 0 where
 
 -- F became G: the chain of the directory y was stored without the entry, and then the file of what went, where it may have
 -- one, was removed, or is left where the device failed at that
-pub record Removes (honest : Type 0) (p : Path) (n : Name) (F : Stored) (x y : Row) (d : Directory) (old : ℕ) (G : Stored) (new : ℕ) : Type 0 where
+pub record RemovesStored (honest : Type 0) (p : Path) (n : Name) (F : Stored) (x y : Row) (d : Directory) (old : ℕ) (G : Stored) (new : ℕ) : Type 0 where
   pub between : Stored
   pub stored : honest → Above (with_entries F y.number (listing_of (changed d n None))) x p between
   pub clears : Clears honest between old G new (own_number (find_row n d.rows))

@@ -10,7 +10,7 @@ ghost use Rattle.eden_materialise.specs.Atomic.{IsAtomic};
 ghost use Rattle.eden_materialise.specs.Faults.{IsStoreFault};
 ghost use Rattle.eden_materialise.specs.Listings.{IsHeldFor};
 ghost use Rattle.eden_materialise.specs.Puts.{AtDirectory};
-ghost use Rattle.eden_materialise.specs.Removals.{HasEntry, Removes, RemovesEntry};
+ghost use Rattle.eden_materialise.specs.Removals.{HasEntry, RemovesStored, RemovesEntry};
 
 use crate::entry_change::take_out;
 use crate::entry_move::{remove_replaced, spot_at};
@@ -68,7 +68,7 @@ pub fn remove_entry<A: Allocator + Clone, W: World, F: Files<W>>(
     ensures ok { AtDirectory path.now inodes.old.root
         (λ y d. OnOk result (inodes.new.root ≡ chained path.now (changed d name.now None) inodes.old.root)) }
     ensures removed { AtDirectory path.now inodes.old.root
-        (λ y d. OnOk result (Removes W.honest path.now name.now (F.stored inodes.old.files) inodes.old.root y d
+        (λ y d. OnOk result (RemovesStored W.honest path.now name.now (F.stored inodes.old.files) inodes.old.root y d
         (F.failures inodes.old.files) (F.stored inodes.new.files) (F.failures inodes.new.files))) }
     ensures atomic { IsAtomic W.World F.Files IsStoreFault inodes.old inodes.new result }
     ensures strays { W.honest
