@@ -30,8 +30,8 @@ IsByteBound n = (1 ≤ n) × (n ≤ 2 ^ 40)
 abbrev pub IsSizeBound : ℕ → Type 0
 IsSizeBound n = (1 ≤ n) × (n ≤ 65536)
 
-abbrev pub empty : ℕ → ℕ → ℕ → Cache
-empty entries bytes sizes = record { objects = []; sizes = []; most_entries = entries; most_bytes = bytes; most_sizes = sizes }
+abbrev pub empty_cache : ℕ → ℕ → ℕ → Cache
+empty_cache entries bytes sizes = record { objects = []; sizes = []; most_entries = entries; most_bytes = bytes; most_sizes = sizes }
 
 abbrev pub usage_of : Cache → Usage
 usage_of c = record { objects = length c.objects; bytes = weight_of c.objects; sizes = length c.sizes }

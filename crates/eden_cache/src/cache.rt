@@ -68,7 +68,7 @@ impl<A: Allocator> Model for ObjectCache<A> {
 
 impl<A: Allocator + Clone> ObjectCache<A> {
     ghost use Rattle.eden_model.specs.Keys.{same_key, same_id};
-    ghost use Rattle.eden_cache.specs.Cache.{IsSound, KeepsObject, KeepsSize, empty, usage_of};
+    ghost use Rattle.eden_cache.specs.Cache.{IsSound, KeepsObject, KeepsSize, empty_cache, usage_of};
     ghost use Rattle.eden_cache.specs.Lends.{ends_used};
 
     /// A cache without objects and sizes, for at most so many objects of so many bytes together, and so many sizes.
@@ -78,7 +78,7 @@ impl<A: Allocator + Clone> ObjectCache<A> {
         requires entries { IsObjectBound entries }
         requires bytes { IsByteBound bytes }
         requires sizes { IsSizeBound sizes }
-        ensures { IfOk result (λ c. c ≡ empty entries bytes sizes) }
+        ensures { IfOk result (λ c. c ≡ empty_cache entries bytes sizes) }
     {
         let Some(entries) = NonZeroUsize::new(entries) else {
             unreachable!();

@@ -11,7 +11,7 @@ use Rattle.eden_overlay.specs.Held.{HoldsState, root_file, with_state}
 use Rattle.eden_overlay_format.specs.declared.stored_entry.StoredEntry.{StoredEntry}
 use Rattle.eden_overlay.specs.Soundness.{IsLive, Names, below, here}
 use Rattle.eden_overlay.proofs.CallerLemmas.{entries_at_root}
-use Rattle.eden_dematerialise.specs.Dematerialising.{AreDematerialised, AreMoved, AreSoFar, Dematerialises, HasNoneUnread, Leads, Moves, NoneIsLeft, Removes, ShowTheSame, moved_to}
+use Rattle.eden_dematerialise.specs.Dematerialising.{AreDematerialised, AreMoved, AreSoFar, Dematerialises, HasNoneUnread, Leads, Moves, NoneIsLeft, RemovesUnread, ShowTheSame, moved_to}
 use Rattle.eden_dematerialise.proofs.Left.{none_moves}
 use Rattle.eden_dematerialise.proofs.Removed.{none_still, nothing_removed, numbers_still, state_kept, still_sound}
 use Rattle.eden_dematerialise.proofs.Seen.{still_shown}
@@ -31,7 +31,7 @@ module _ (R : Repository) where
       by_moves K H became (Moves.moved s rooted has good) =
           moved_on R F K s to became (state_before to F K s became has) good (sym (all_stay R 1 to F K became).root ∙ rooted)
 
-  removed_keep : (F K H : Stored) → ShowTheSame R F K → Removes K H → ShowTheSame R F H
+  removed_keep : (F K H : Stored) → ShowTheSame R F K → RemovesUnread K H → ShowTheSame R F H
   removed_keep F K H same removed =
       let before : (t : State) → HoldsState H t → HoldsState K t = λ t has. ap (option_and_then state_in) (sym (state_kept K H removed)) ∙ has in
       record {
@@ -83,10 +83,10 @@ module _ (R : Repository) where
       subst (λ (X : Stored). NoneIsLeft R X 1 to) (sym is) (none_moves R K (moved_to to s) 1 to (omega arith) (subst (λ (X : Stored). NoneIsLeft R X 1 to) (sym after) none))
 
   -- what nobody reads was removed from files that were moved
-  pub removed_done : (to : Id) (F E K L G : Stored) → E ≡ F → AreMoved R to E K → NoneIsLeft R K 1 to → L ≡ K → Removes L G → HasNoneUnread G
+  pub removed_done : (to : Id) (F E K L G : Stored) → E ≡ F → AreMoved R to E K → NoneIsLeft R K 1 to → L ≡ K → RemovesUnread L G → HasNoneUnread G
       → AreDematerialised R to F G
   removed_done to F E K L G first moved left same removed unread =
-      let removes : Removes K G = subst (λ (X : Stored). Removes X G) same removed in
+      let removes : RemovesUnread K G = subst (λ (X : Stored). RemovesUnread X G) same removed in
       record {
         standing = K;
         moved = subst (λ (X : Stored). AreMoved R to X K) first moved;
@@ -95,9 +95,9 @@ module _ (R : Repository) where
         unread = unread;
       }
 
-  pub removed_so_far : (to : Id) (F E K L G : Stored) → E ≡ F → AreMoved R to E K → L ≡ K → Removes L G → AreSoFar R to F G
+  pub removed_so_far : (to : Id) (F E K L G : Stored) → E ≡ F → AreMoved R to E K → L ≡ K → RemovesUnread L G → AreSoFar R to F G
   removed_so_far to F E K L G first moved same removed =
-      AreSoFar.moved K (subst (λ (X : Stored). AreMoved R to X K) first moved) (subst (λ (X : Stored). Removes X G) same removed)
+      AreSoFar.moved K (subst (λ (X : Stored). AreMoved R to X K) first moved) (subst (λ (X : Stored). RemovesUnread X G) same removed)
 
   pub listed_so_far : (to : Id) (F E G : Stored) → E ≡ F → Dematerialises R 1 to E G → AreSoFar R to F G
   listed_so_far to F E G first became = AreSoFar.listed (subst (λ (X : Stored). Dematerialises R 1 to X G) first became)

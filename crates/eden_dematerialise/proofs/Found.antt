@@ -7,7 +7,7 @@ use Rattle.eden_overlay.specs.Files.{Stored}
 use Rattle.eden_overlay.specs.Held.{HoldsEntries, entries_at}
 use Rattle.eden_overlay.specs.Soundness.{IsLive, LeadsOn, Names}
 use Rattle.eden_overlay.proofs.CallerLemmas.{one_held}
-use Rattle.eden_dematerialise.specs.Dematerialising.{HasEntry, IsElsewhere, IsOwn, Removes}
+use Rattle.eden_dematerialise.specs.Dematerialising.{HasEntry, IsElsewhere, IsOwn, RemovesUnread}
 use Rattle.eden_dematerialise.specs.declared.unread.Numbers.{Numbers}
 use Rattle.eden_dematerialise.specs.Unread.{Adds, AreAllMetFrom, AreEntries, AreMetFrom, AreMetOf, Stay, WasElsewhere, WasOwn}
 use Rattle.eden_dematerialise.proofs.Removed.{First, first}
@@ -108,7 +108,7 @@ if_ok (Err e) f p = p
 
 -- what was removed of these, but for what own entries have, was read by nobody
 pub removed_all : (F K G : Stored) (none n : Numbers) → K ≡ F → ((k : ℕ) → ¬ WasElsewhere none k) → AreEntries F none n → AreAllMetFrom F n 1
-    → ((k : ℕ) → (G k ≡ K k) ⊎ ((G k ≡ None) × WasElsewhere n k × (¬ WasOwn n k))) → Removes F G
+    → ((k : ℕ) → (G k ≡ K k) ⊎ ((G k ≡ None) × WasElsewhere n k × (¬ WasOwn n k))) → RemovesUnread F G
 removed_all F K G none n same empty each all others k = elim (others k) [
   | inl still ↦ inl (still ∙ ap (λ (X : Stored). X k) same)
   | inr gone ↦ inr (gone.0, (from_elsewhere (each.elsewhere k gone.1), λ h. gone.2 (subst (WasOwn n) h.number (all.0 h.directory h.entry h.live h.names h.is))))

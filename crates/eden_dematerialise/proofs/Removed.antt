@@ -15,11 +15,11 @@ use Rattle.eden_overlay.specs.Counting.{Counted, Counts, ListsEntry, NumbersAreS
 use Rattle.eden_overlay.specs.Held.{numbers_of, root_file}
 use Rattle.eden_overlay.specs.Soundness.{AreSound, HoldsKind, IsLive, LeadsOn, Names, Reached, below, here}
 use Rattle.eden_overlay.proofs.CallerLemmas.{kind_moved, names_moved, numbers_from_two, root_same}
-use Rattle.eden_dematerialise.specs.Dematerialising.{HasEntry, HasNoneUnread, IsAmong, IsOwn, IsUnread, Leads, NoneIsLeft, Removes}
+use Rattle.eden_dematerialise.specs.Dematerialising.{HasEntry, HasNoneUnread, IsAmong, IsOwn, IsUnread, Leads, NoneIsLeft, RemovesUnread}
 use Rattle.eden_dematerialise.specs.declared.unread.Numbers.{Numbers}
 use Rattle.eden_dematerialise.specs.Unread.{AreAllMetFrom, WasElsewhere, WasOwn}
 
-module _ (F G : Stored) (removes : Removes F G) where
+module _ (F G : Stored) (removes : RemovesUnread F G) where
   -- what is there is what was
   pub as_it_was : (k : ℕ) (bytes : List ℕ) → G k ≡ Some bytes → G k ≡ F k
   as_it_was k bytes there = elim (removes k) [
@@ -166,7 +166,7 @@ module _ (F G : Stored) (removes : Removes F G) where
 
 -- ---- steps
 
-pub nothing_removed : (F G : Stored) → G ≡ F → Removes F G
+pub nothing_removed : (F G : Stored) → G ≡ F → RemovesUnread F G
 nothing_removed F G is k = inl (ap (λ (X : Stored). X k) is)
 
 -- from a directory on, or from one that it names

@@ -23,7 +23,7 @@ use Rattle.eden_overlay.specs.Held.{entries_at, item_of, items_of, own_files, ro
 use Rattle.eden_overlay.specs.Soundness.{IsLive, Names, below, here}
 use Rattle.eden_overlay.proofs.CallerLemmas.{contains_first, contains_rest, root_same}
 use Rattle.eden_snapshot.specs.Showing.{FilesShow, root_item}
-use Rattle.eden_dematerialise.specs.Dematerialising.{Removes}
+use Rattle.eden_dematerialise.specs.Dematerialising.{RemovesUnread}
 use Rattle.eden_dematerialise.proofs.Removed.{own_stays, root_kept}
 
 -- what is found under a name is there
@@ -34,7 +34,7 @@ found n (x ∷ es) e is = elim (bytes_eq n x.name) as (λ b. cond b (Some x) (na
   | false ↦ λ later. contains_rest x e es (found n es e later)
 ] is
 
-module _ (R : Repository) (F G : Stored) (removes : Removes F G) where
+module _ (R : Repository) (F G : Stored) (removes : RemovesUnread F G) where
   abbrev A : Ground Source
   A = ground_with R (own_files F)
 

@@ -86,8 +86,8 @@ abbrev pub IsUnread : Stored → ℕ → Type 0
 IsUnread F k = HasEntry F IsElsewhere k × (¬ HasEntry F IsOwn k)
 
 -- of F files are gone that nobody reads, and nothing else changed
-abbrev pub Removes : Stored → Stored → Type 0
-Removes F G = (k : ℕ) → (G k ≡ F k) ⊎ ((G k ≡ None) × IsUnread F k)
+abbrev pub RemovesUnread : Stored → Stored → Type 0
+RemovesUnread F G = (k : ℕ) → (G k ≡ F k) ⊎ ((G k ≡ None) × IsUnread F k)
 
 -- no such file is there
 abbrev pub HasNoneUnread : Stored → Type 0
@@ -132,11 +132,11 @@ pub record AreMoved (R : Repository) (to : Id) (F G : Stored) : Type 0 where
 pub record AreDematerialised (R : Repository) (to : Id) (F G : Stored) : Type 0 where
   pub standing : Stored
   pub moved : AreMoved R to F standing
-  pub removed : Removes standing G
+  pub removed : RemovesUnread standing G
   pub left : NoneIsLeft R G 1 to
   pub unread : HasNoneUnread G
 
 -- .. or it was done so far
 pub data AreSoFar (R : Repository) (to : Id) (F G : Stored) : Type 0 where
   listed : Dematerialises R 1 to F G → AreSoFar R to F G
-  moved : (standing : Stored) → AreMoved R to F standing → Removes standing G → AreSoFar R to F G
+  moved : (standing : Stored) → AreMoved R to F standing → RemovesUnread standing G → AreSoFar R to F G

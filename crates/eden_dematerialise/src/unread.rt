@@ -4,7 +4,7 @@ ghost use Rattle.std.specs.Prelude.{◌≡◌, ◌≢◌, ◌⊎◌, None, true,
 ghost use Rattle.std.specs.Ordering.{nat_cmp};
 ghost use Rattle.std.specs.BTreeSet.{contains};
 ghost use Rattle.eden_overlay.specs.Soundness.{IsLive, Names};
-ghost use Rattle.eden_dematerialise.specs.Dematerialising.{HasNoneUnread, Removes};
+ghost use Rattle.eden_dematerialise.specs.Dematerialising.{HasNoneUnread, RemovesUnread};
 ghost use Rattle.eden_dematerialise.specs.Unread.{Adds, AreAllMetFrom, AreEntries, AreMetOf, Stay};
 
 use crate::fault::DematerialiseFault;
@@ -30,7 +30,7 @@ pub(crate) fn remove_unread<W: World, F: Files<W>>(
     alloc: Global,
     files: &mut F,
 ) -> Result<(), DematerialiseFault>
-    ensures removed { W.honest → Removes (F.stored files.old) (F.stored files.new) }
+    ensures removed { W.honest → RemovesUnread (F.stored files.old) (F.stored files.new) }
     ensures unread { W.honest → OnOk result (HasNoneUnread (F.stored files.new)) }
 {
     let none = Numbers {

@@ -112,8 +112,8 @@ abbrev pub with_names : {S : Type 0} → ℕ → List ℕ → Option S → (S �
 with_names size b s make = option_and_then (λ x. option_map (λ ns. make x ns.0 ns.1) (option_and_then names_in (behind size b))) s
 
 -- struct fuse_write_in, and behind it as many bytes as it says
-abbrev pub written : List ℕ → Option Asked
-written b = option_and_then (λ s. option_and_then (λ bytes. if length bytes == s.size then Some (Write s bytes) else None) (behind 40 b)) (write_in b)
+abbrev pub asked_write : List ℕ → Option Asked
+asked_write b = option_and_then (λ s. option_and_then (λ bytes. if length bytes == s.size then Some (Write s bytes) else None) (behind 40 b)) (write_in b)
 
 -- struct fuse_batch_forget_in, whose first member counts the structs fuse_forget_one behind it, of 16 bytes each
 abbrev pub forgotten : List ℕ → Option Asked
@@ -134,7 +134,7 @@ asked_by op.Rename b = with_names 8 b (rename_in b) Rename
 asked_by op.Link b = with_name 8 b (link_in b) Link
 asked_by op.Open b = option_map Open (open_in b)
 asked_by op.Read b = option_map Read (read_in b)
-asked_by op.Write b = written b
+asked_by op.Write b = asked_write b
 asked_by op.StatFs b = Some StatFs
 asked_by op.Release b = option_map Release (release_in b)
 asked_by op.FSync b = option_map FSync (fsync_in b)

@@ -4,7 +4,7 @@ use Rattle.eden_fuse_format.specs.declared.message.Header.{Header}
 use Rattle.eden_fuse_format.specs.declared.message.Message.{Message}
 use Rattle.eden_fuse_format.specs.declared.message.Message.TheVariants.{Request, Unknown, Malformed, Unframed}
 use Rattle.eden_fuse_format.specs.Asked.{Asked, seen}
-use Rattle.eden_fuse_format.specs.Messages.{Requests, Reads}
+use Rattle.eden_fuse_format.specs.Messages.{Requests, IsMessageOf}
 use Rattle.eden_fuse_format.specs.Spelling.{IsSpelled, request_text}
 
 -- what is spelled is read
@@ -20,4 +20,4 @@ SameMessage m n = ⊥
 
 -- bytes are one message
 abbrev pub OneMessage : Type 0
-OneMessage = (bytes : List ℕ) (m n : Message) → Reads bytes m → Reads bytes n → SameMessage m n
+OneMessage = (bytes : List ℕ) (m n : Message) → IsMessageOf bytes m → IsMessageOf bytes n → SameMessage m n

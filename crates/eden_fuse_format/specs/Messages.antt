@@ -35,9 +35,9 @@ abbrev pub Requests : List ℕ → Header → Asked → Type 0
 Requests bytes header asked = IsFramed bytes × (header ≡ header_of bytes)
     × ((o : Opcode) × HasOpcode bytes o × (asked_by o (body_in bytes) ≡ Some asked))
 
-abbrev pub Reads : List ℕ → Message → Type 0
-Reads bytes (Request header operation) = Requests bytes header (seen operation)
-Reads bytes (Unknown unique) = IsFramed bytes × (unique ≡ u64_at 8 bytes) × ((o : Opcode) → ¬ HasOpcode bytes o)
-Reads bytes (Malformed unique) = IsFramed bytes × (unique ≡ u64_at 8 bytes)
+abbrev pub IsMessageOf : List ℕ → Message → Type 0
+IsMessageOf bytes (Request header operation) = Requests bytes header (seen operation)
+IsMessageOf bytes (Unknown unique) = IsFramed bytes × (unique ≡ u64_at 8 bytes) × ((o : Opcode) → ¬ HasOpcode bytes o)
+IsMessageOf bytes (Malformed unique) = IsFramed bytes × (unique ≡ u64_at 8 bytes)
     × ((o : Opcode) × HasOpcode bytes o × (asked_by o (body_in bytes) ≡ None))
-Reads bytes Unframed = ¬ (IsFramed bytes)
+IsMessageOf bytes Unframed = ¬ (IsFramed bytes)

@@ -1,5 +1,5 @@
 ghost use Rattle.std.specs.Prelude.{◌≡◌};
-ghost use Rattle.eden_fuse_format.specs.Messages.{Reads};
+ghost use Rattle.eden_fuse_format.specs.Messages.{IsMessageOf};
 
 use crate::members::{u32_at, u64_at};
 use crate::opcode::read_opcode;
@@ -32,7 +32,7 @@ pub enum Message<'a> {
 
 /// What the bytes of one message are.
 pub fn read_message(bytes: &[u8]) -> Message<'_>
-    ensures { Reads bytes.now result }
+    ensures { IsMessageOf bytes.now result }
 {
     if bytes.len() < HEADER_LEN {
         return Message::Unframed;

@@ -1,6 +1,6 @@
 ghost use Rattle.std.specs.Prelude.{◌≡◌, option_map, option_and_then};
 ghost use Rattle.eden_fuse_format.specs.Members.{behind, name_in, names_in};
-ghost use Rattle.eden_fuse_format.specs.Asked.{seen, asked_by, written, forgotten, forget_one};
+ghost use Rattle.eden_fuse_format.specs.Asked.{seen, asked_by, asked_write, forgotten, forget_one};
 
 use crate::members::{behind, name_in, names_in, u32_at, u64_at};
 use crate::opcode::Opcode;
@@ -70,7 +70,7 @@ pub fn forget_at(batch: &[u8], index: usize) -> Option<ForgetOne>
 }
 
 fn written(body: &[u8]) -> Option<Operation<'_>>
-    ensures { option_map seen result ≡ written body.now }
+    ensures { option_map seen result ≡ asked_write body.now }
 {
     let head = write_in(body)?;
     let bytes = behind(40, body)?;

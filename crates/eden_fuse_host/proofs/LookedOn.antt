@@ -19,10 +19,10 @@ use Rattle.eden_fuse_session.specs.declared.sender.Sender.{Ghosts as Sender}
 use Rattle.eden_fuse_session.specs.declared.serving.SessionFault.{SessionFault}
 use Rattle.eden_fuse_session.specs.declared.turning.Turned.{Turned}
 use Rattle.eden_fuse_session.specs.Turns.{Does, Line}
-use Rattle.eden_fuse_session.specs.Sessions.{Serves, Serving, Session, answer_room}
+use Rattle.eden_fuse_session.specs.Sessions.{Serves, Serving, MessageSession, answer_room}
 use Rattle.eden_fuse_shown.specs.Looking.{ChangesNothing}
 use Rattle.eden_fuse_host.specs.Hands.{HandAnswers, IsAttended, Turning, taken_by}
-use Rattle.eden_fuse_host.specs.Lines.{Coming, IsUnused}
+use Rattle.eden_fuse_host.specs.Lines.{Coming, IsFreshLine}
 use Rattle.eden_fuse_host.specs.Passing.{HasLooked, HasMetFault}
 
 abbrev IsQuiet : Told → Type 0
@@ -79,8 +79,8 @@ module _ (Turns : Turning) where
 
 -- a thread's session
 module _ {V O : Type 0} (v : Receiver V) (o : Sender O) (Comes : Coming) (Turns : Turning) where
-  pub attended : (p p' : Carried) (receiver left : V) (sender sent : O) (said : Result ⊤ SessionFault) → Comes (v.waiting receiver) → IsUnused (taken_by o sender)
-      → Session (HandAnswers Turns) (p, taken_by o sender) (p', taken_by o sent) (v.waiting receiver) (v.waiting left) said → IsAttended v o Comes Turns p p' said
+  pub attended : (p p' : Carried) (receiver left : V) (sender sent : O) (said : Result ⊤ SessionFault) → Comes (v.waiting receiver) → IsFreshLine (taken_by o sender)
+      → MessageSession (HandAnswers Turns) (p, taken_by o sender) (p', taken_by o sent) (v.waiting receiver) (v.waiting left) said → IsAttended v o Comes Turns p p' said
   attended p p' receiver left sender sent said whole unused s = record {
     receiver = receiver;
     left = left;

@@ -8,13 +8,13 @@ use Rattle.eden_fuse_format.specs.Asked.{Asked}
 use Rattle.eden_fuse_session.specs.declared.receiver.Receiver.{Ghosts as Receiver}
 use Rattle.eden_fuse_session.specs.declared.sender.Sender.{Ghosts as Sender}
 use Rattle.eden_fuse_session.specs.declared.serving.SessionFault.{SessionFault}
-use Rattle.eden_fuse_session.specs.Sessions.{Session}
+use Rattle.eden_fuse_session.specs.Sessions.{MessageSession}
 use Rattle.eden_fuse_session.specs.Turns.{IsBriefly, Line, Told, told}
 use Rattle.eden_fuse_shown.specs.declared.manner.Manner.{Manner}
 use Rattle.eden_fuse_shown.specs.Looking.{ChangesNothing}
 use Rattle.eden_fuse_host.specs.declared.turns.Taken.{Taken}
 use Rattle.eden_fuse_host.specs.declared.turns.Taken.TheVariants.{Answered, Looks}
-use Rattle.eden_fuse_host.specs.Lines.{Coming, IsUnused}
+use Rattle.eden_fuse_host.specs.Lines.{Coming, IsFreshLine}
 use Rattle.eden_fuse_host.specs.Passing.{HasLooked, HasMetFault}
 use Rattle.eden_fuse_host.specs.Turns.{IsShown, IsTurn, beginning}
 
@@ -53,8 +53,8 @@ module _ {V O : Type 0} (v : Receiver V) (o : Sender O) (Comes : Coming) (Turns 
     pub sender : O
     pub sent : O
     pub whole : Comes (v.waiting receiver)
-    pub unused : IsUnused (taken_by o sender)
-    pub session : Session (HandAnswers Turns) (p, taken_by o sender) (p', taken_by o sent) (v.waiting receiver) (v.waiting left) said
+    pub unused : IsFreshLine (taken_by o sender)
+    pub session : MessageSession (HandAnswers Turns) (p, taken_by o sender) (p', taken_by o sent) (v.waiting receiver) (v.waiting left) said
     pub looked : HasLooked p p'
 
   -- so with each of these passes, and the first fault is told

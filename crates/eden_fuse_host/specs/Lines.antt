@@ -8,5 +8,5 @@ abbrev pub Coming : Type 1
 Coming = Known → Type 0
 
 -- nothing was sent by a line yet, and nothing failed
-abbrev pub IsUnused : Line → Type 0
-IsUnused line = ((line.0 ≡ None) ⊎ (line.0 ≡ Some [])) × (line.1 ≡ 0)
+abbrev pub IsFreshLine : Line → Type 0
+IsFreshLine line = ((line.0 ≡ None) ⊎ (line.0 ≡ Some [])) × (line.1 ≡ 0)

@@ -1,6 +1,6 @@
 ghost use Rattle.eden_fuse_session.specs.Sending.{Known};
 ghost use Rattle.eden_fuse_host.specs.Hands.{taken_by};
-ghost use Rattle.eden_fuse_host.specs.Lines.{IsUnused};
+ghost use Rattle.eden_fuse_host.specs.Lines.{IsFreshLine};
 
 use eden_fuse_session::{Receiver, Sender};
 
@@ -13,5 +13,5 @@ pub trait Lines<V: Receiver, O: Sender> {
     /// comes to one of them, and any may take its answer.
     fn line(&self) -> (V, O)
         ensures whole { comes self.now (V.waiting result.0) }
-        ensures unused { IsUnused (taken_by O.Sender result.1) };
+        ensures unused { IsFreshLine (taken_by O.Sender result.1) };
 }

@@ -13,7 +13,7 @@ use Rattle.eden_fuse_session.specs.Sending.{Known}
 use Rattle.eden_fuse_session.specs.Turns.{Line}
 use Rattle.eden_fuse_shown.specs.declared.manner.Manner.{Manner}
 use Rattle.eden_fuse_life.specs.declared.life.FolderEnding.{FolderEnding}
-use Rattle.eden_fuse_life.specs.Lives.{IsShown, LivesFolderBy, first_fault}
+use Rattle.eden_fuse_life.specs.Lives.{IsShown, LivesFolderBy, first_folder_fault}
 
 module _ {W F : Type 0} (w : Ghosts W) (f : Files F W) where
   -- the first fault of a served folder is none of the opening
@@ -21,7 +21,7 @@ module _ {W F : Type 0} (w : Ghosts W) (f : Files F W) where
       (line line' : Line) (waiting unread : Known) (left : FolderEnding F S) where
     pub lived : (said : Result (Unit {0}) SessionFault) (unstored : Option ℕ) (o : Option FilesFault)
         → IsShown w f fetched copies limit base settings backing m line line' waiting unread left
-        → LivesFolderBy w f fetched copies limit (first_fault said unstored o) base settings backing m line line' waiting unread left
+        → LivesFolderBy w f fetched copies limit (first_folder_fault said unstored o) base settings backing m line line' waiting unread left
     lived (Err e) unstored o h = h
     lived (Ok v) (Some errno) o h = h
     lived (Ok v) None (Some e) h = h

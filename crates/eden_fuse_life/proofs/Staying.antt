@@ -29,15 +29,15 @@ use Rattle.eden_fuse_shown.specs.declared.mount.Unheard.TheVariants as unheard
 use Rattle.eden_fuse_shown.specs.Running.{Hears, Leads}
 use Rattle.eden_fuse_shown.specs.declared.sorts.Sort.{Sort}
 use Rattle.eden_fuse_shown.specs.declared.sorts.Sort.TheVariants as sort
-use Rattle.eden_fuse_shown.specs.Listing.{Entry, page_of, kept_at, last_at}
+use Rattle.eden_fuse_shown.specs.Listing.{Entry, page_of_handle, kept_at, last_at}
 use Rattle.eden_fuse_shown.specs.Naming.{is_reserved, last_name}
 use Rattle.eden_fuse_shown.specs.Opens.{opens_of, is_last}
 use Rattle.eden_fuse_shown.specs.declared.extents.Gap.{Gap}
 use Rattle.eden_fuse_shown.specs.Reading.{AsksPart, Gathers, ReadsOn, reading}
 use Rattle.eden_fuse_shown.specs.Waiting.{Extent, extent_of, gap_of, may_wait}
 use Rattle.eden_fuse_shown.specs.Waiting.{Table as Waits}
-use Rattle.eden_fuse_shown.specs.Showing.{Showing, Runs, RunsFrom, ReadsKept, Reads, RemovesBy, Restores, MovesOver, ReplacesBy, LetsGo, LetsGoLast, ClosesFile}
-use Rattle.eden_fuse_shown.specs.Showing.{storing, data_of, IsStored, SettlesWith, Unless, Once, WaitsIf, Finds, BridgesIf, BridgesElse, WritesAnew, WritesApart, Writes, Empties, StoresAll}
+use Rattle.eden_fuse_shown.specs.Showing.{Showing, Runs, RunsFrom, ReadsKept, ReadsDirectory, RemovesBy, Restores, MovesOver, ReplacesBy, LetsGo, LetsGoLast, ClosesFile}
+use Rattle.eden_fuse_shown.specs.Showing.{storing, data_of, IsStored, SettlesWith, Unless, Once, WaitsIf, Finds, BridgesIf, BridgesElse, WritesAnew, WritesApart, WritesFile, Empties, StoresAll}
 use Rattle.eden_fuse_shown.specs.Showing.{ClearsIf, ClearsRow, ClearsRows, Clears, Starts, Heeds, Takes, rows_in, Shows, Syncs, ShowsBy, sort_of}
 use Rattle.eden_fuse_shown.specs.Showing.{Serves as ServesAs}
 
@@ -92,11 +92,11 @@ module _ {S : Type 0} (fetched : S → Id → Answer → S → Type 0) {T : Type
   kept_keeps : (rows : Option (List Entry)) (node : ℕ) (a : Asked) (s : ReadIn) (old new : Folder) (t : Told) → ReadsKept answers rows node a s old t new
       → Kept old.mount new.mount
   kept_keeps (Some rows) node a s old new t (same, told) = folder_same old new same
-  kept_keeps None node a s old new t r = runs_from_keep node a (last_at (page_of old.pages s.fh) s.offset) old new t r
+  kept_keeps None node a s old new t r = runs_from_keep node a (last_at (page_of_handle old.pages s.fh) s.offset) old new t r
 
-  reads_keep : (node : ℕ) (a : Asked) (s : ReadIn) (old new : Folder) (t : Told) → Reads answers node a s old t new → Kept old.mount new.mount
+  reads_keep : (node : ℕ) (a : Asked) (s : ReadIn) (old new : Folder) (t : Told) → ReadsDirectory answers node a s old t new → Kept old.mount new.mount
   reads_keep node a s old new t r =
-      either (λ e. folder_same old new e.0) (λ g. kept_keeps (kept_at (page_of old.pages s.fh) s.offset) node a s old new t g) r
+      either (λ e. folder_same old new e.0) (λ g. kept_keeps (kept_at (page_of_handle old.pages s.fh) s.offset) node a s old new t g) r
 
   -- ---- what waits is stored
 
@@ -173,7 +173,7 @@ module _ {S : Type 0} (fetched : S → Id → Answer → S → Type 0) {T : Type
       bridges_keep (Once answers (Some node) (WritesAnew answers node offset a))
       (once_keeps (WritesAnew answers node offset a) (writes_anew_keep node offset a) (Some node)) node offset (data_of a) old new t r
 
-  writes_keep : (node offset : ℕ) (a : Asked) (old new : Folder) (t : Told) → Writes answers node offset a old t new → Kept old.mount new.mount
+  writes_keep : (node offset : ℕ) (a : Asked) (old new : Folder) (t : Told) → WritesFile answers node offset a old t new → Kept old.mount new.mount
   writes_keep node offset a old new t r =
       waits_if_keeps (WritesApart answers node offset a) (writes_apart_keep node offset a) (may_wait old.waits node offset (data_of a)) node offset (data_of a) old new t r
 

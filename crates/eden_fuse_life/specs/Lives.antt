@@ -16,12 +16,12 @@ use Rattle.eden_checkout.specs.Checkouts.{Checkout}
 use Rattle.eden_stdio_life.specs.declared.life.Backing.{Backing}
 use Rattle.eden_stdio_life.specs.declared.opening.Base.{Base}
 use Rattle.eden_stdio_life.specs.Calls.{CallAnswers}
-use Rattle.eden_stdio_life.specs.Opening.{Closes, IsOpened, IsRefused}
+use Rattle.eden_stdio_life.specs.Opening.{Closes, IsOpened, IsNotOpened}
 use Rattle.eden_stdio_life.specs.Serving.{Begins}
 use Rattle.eden_fuse_session.specs.declared.serving.SessionFault.{SessionFault}
 use Rattle.eden_fuse_session.specs.Sending.{Known}
 use Rattle.eden_fuse_session.specs.Turns.{Line}
-use Rattle.eden_fuse_session.specs.Sessions.{Session}
+use Rattle.eden_fuse_session.specs.Sessions.{MessageSession}
 use Rattle.eden_fuse_shown.specs.declared.manner.Manner.{Manner}
 use Rattle.eden_fuse_shown.specs.Beginning.{IsBlank}
 use Rattle.eden_fuse_shown.specs.Showing.{Showing, Shows, StoresAll}
@@ -30,11 +30,11 @@ use Rattle.eden_fuse_life.specs.declared.fault.FolderFault.TheVariants as life
 use Rattle.eden_fuse_life.specs.declared.life.FolderEnding.{FolderEnding}
 
 -- the session's fault is told before the error of the last stores, and that before the close's fault
-abbrev pub first_fault : Result ⊤ SessionFault → Option ℕ → Option FilesFault → Result ⊤ FolderFault
-first_fault (Err fault) unstored unclosed = Err (life.Session fault)
-first_fault (Ok _) (Some errno) unclosed = Err (life.Unstored errno)
-first_fault (Ok _) None (Some fault) = Err (life.Close fault)
-first_fault (Ok _) None None = Ok tt
+abbrev pub first_folder_fault : Result ⊤ SessionFault → Option ℕ → Option FilesFault → Result ⊤ FolderFault
+first_folder_fault (Err fault) unstored unclosed = Err (life.Session fault)
+first_folder_fault (Ok _) (Some errno) unclosed = Err (life.Unstored errno)
+first_folder_fault (Ok _) None (Some fault) = Err (life.Close fault)
+first_folder_fault (Ok _) None None = Ok tt
 
 module _ {W F : Type 0} (w : Ghosts W) (f : Files F W) where
   -- a served folder's checkout was closed, and the first fault told
@@ -42,14 +42,14 @@ module _ {W F : Type 0} (w : Ghosts W) (f : Files F W) where
       (left : FolderEnding F S) : Type 0 where
     pub files : Closes w f root t tree N left.unclosed left.backing.files
     pub source_left : left.backing.source ≡ source
-    pub told : left.outcome ≡ first_fault said left.unstored left.unclosed
+    pub told : left.outcome ≡ first_folder_fault said left.unstored left.unclosed
 
   -- the history copies replies or doesn't, and may become so long
   module _ {S : Type 0} (fetched : S → Id → Answer → S → Type 0) (copies : Bool) (limit : ℕ) where
     -- The overlay wasn't opened, for that fault: nothing was received or sent, and the source wasn't asked.
     pub record IsUnshown (base : Base) (backing : Backing F S) (line line' : Line) (waiting unread : Known) (why : OpenFault)
         (left : FolderEnding F S) : Type 0 where
-      pub files : IsRefused w f base backing.files why left.backing.files
+      pub files : IsNotOpened w f base backing.files why left.backing.files
       pub source : left.backing.source ≡ backing.source
       pub unreceived : unread ≡ waiting
       pub unsent : line' ≡ line
@@ -68,7 +68,7 @@ module _ {W F : Type 0} (w : Ghosts W) (f : Files F W) where
       pub opened : IsOpened w f base settings backing.files begun.mount.core.table
       pub ended : Showing (Desk (Checkout F) S)
       pub said : Result ⊤ SessionFault
-      pub session : Session (Shows (CallAnswers fetched (attempted w f) w.honest copies) (SyncsDesk (attempted w f) w.honest)) (begun, line)
+      pub session : MessageSession (Shows (CallAnswers fetched (attempted w f) w.honest copies) (SyncsDesk (attempted w f) w.honest)) (begun, line)
           (ended, line') waiting unread said
       pub last : Desk (Checkout F) S
       pub stored : StoresAll (CallAnswers fetched (attempted w f) w.honest copies) ended.nodes ended.waits ended.mount left.unstored last

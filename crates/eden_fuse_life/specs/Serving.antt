@@ -14,7 +14,7 @@ use Rattle.eden_stdio_life.specs.Serving.{Begins}
 use Rattle.eden_fuse_session.specs.declared.sender.Sender.{Ghosts as Sender}
 use Rattle.eden_fuse_session.specs.Sending.{Known}
 use Rattle.eden_fuse_session.specs.Turns.{Line}
-use Rattle.eden_fuse_session.specs.Sessions.{Session}
+use Rattle.eden_fuse_session.specs.Sessions.{MessageSession}
 use Rattle.eden_fuse_shown.specs.declared.manner.Manner.{Manner}
 use Rattle.eden_fuse_shown.specs.Beginning.{IsBlank}
 use Rattle.eden_fuse_shown.specs.Showing.{Showing, Shows, StoresAll}
@@ -35,7 +35,7 @@ module _ {W : Type 0} (w : Ghosts W) {S : Type 0} (fetched : S → Id → Answer
     pub manner : begun.manner ≡ m
     pub blank : IsBlank begun
     pub ended : Showing (Desk T S)
-    pub session : Session (Shows (CallAnswers fetched A w.honest copies) (SyncsDesk A w.honest)) (begun, line) (ended, line') waiting left x.said
+    pub session : MessageSession (Shows (CallAnswers fetched A w.honest copies) (SyncsDesk A w.honest)) (begun, line) (ended, line') waiting left x.said
     pub last : Desk T S
     pub stored : StoresAll (CallAnswers fetched A w.honest copies) ended.nodes ended.waits ended.mount x.unstored last
     pub stays : Stays A begun.mount.core last.core

@@ -3,7 +3,7 @@ ghost use Rattle.std.specs.Prelude.{◌≡◌, []};
 ghost use Rattle.eden_model.specs.Numbers as numbers;
 ghost use Rattle.eden_inode.specs.Tables.{shows};
 ghost use Rattle.eden_checkout.specs.Opening.{MayOpen};
-ghost use Rattle.eden_fuse_life.specs.Lives.{EndsFolder, LivesFolder, first_fault};
+ghost use Rattle.eden_fuse_life.specs.Lives.{EndsFolder, LivesFolder, first_folder_fault};
 ghost use Rattle.eden_fuse_life.specs.Serving.{line_of};
 ghost use Rattle.eden_stdio_life.specs.Opening.{IsBacking};
 
@@ -40,7 +40,7 @@ fn first_fault(
     unstored: Option<u32>,
     unclosed: Option<FilesFault>,
 ) -> Result<(), FolderFault>
-    ensures { result ≡ first_fault said unstored unclosed }
+    ensures { result ≡ first_folder_fault said unstored unclosed }
 {
     if let Err(fault) = said {
         return Err(FolderFault::Session(fault));

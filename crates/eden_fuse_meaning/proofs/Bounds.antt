@@ -22,7 +22,7 @@ use Rattle.eden_fuse_meaning.specs.declared.step.Then.TheVariants as after
 use Rattle.eden_fuse_meaning.specs.declared.step.Step.{Step}
 use Rattle.eden_fuse_meaning.specs.declared.step.Step.TheVariants.{Ask, Tell}
 use Rattle.eden_fuse_meaning.specs.Steps.{refuse, refused, on_path, on_listed, on_child, child_at, gives_away, set_mode, set_size, show, has, is_exec, is_exclusive, is_file}
-use Rattle.eden_fuse_meaning.specs.Steps.{makes_file, moves, reach, renames, reserve, on_ok, on_stat, on_kind, or_if, give, count, rows, mark, open_made, open_file, open_dir}
+use Rattle.eden_fuse_meaning.specs.Steps.{makes_file, moves, lengthen, renames, reserve, on_ok, on_stat, on_kind, or_if, give, count, rows, mark, open_made, open_file, open_dir}
 use Rattle.eden_fuse_meaning.specs.Laws.{most_then, most_asked, EndIsNear, AsksThrice}
 
 -- at most so many
@@ -171,7 +171,7 @@ end_is_near after.OpenFile r = within_kind 0 open_file r within_file
 end_is_near after.OpenDir r = within_kind 0 open_dir r within_dir
 end_is_near (after.Free p q) r =
     within_or 1 errno.ENOENT (Ask (ask.Rename p q) after.Finish) (on_kind (λ k. refuse 17)) r (omega arith) (within_kind 1 (λ k. refuse 17) r (λ k. omega arith))
-end_is_near (after.Reach p end) r = within_stat 1 (λ k m i. reach p end m) r (λ k m i. within_if 1 (nat_lt m end) (Ask (ask.Truncate p end) after.Finish) (Tell Done) (omega arith) (omega arith))
+end_is_near (after.Reach p end) r = within_stat 1 (λ k m i. lengthen p end m) r (λ k m i. within_if 1 (nat_lt m end) (Ask (ask.Truncate p end) after.Finish) (Tell Done) (omega arith) (omega arith))
 end_is_near after.Finish r = within_ok 0 (Tell Done) r (omega arith)
 
 -- ---- what a message begins with

@@ -46,15 +46,15 @@ abbrev pub unless : Option Errno → Path → Result Path ℕ
 unless None p = Ok p
 unless (Some e) p = Err (errno_number e)
 
-abbrev pub child_of : Path → Name → Result Path ℕ
-child_of p n = unless (child_refusal p n) (p ++ n ∷ [])
+abbrev pub path_inside : Path → Name → Result Path ℕ
+path_inside p n = unless (child_refusal p n) (p ++ n ∷ [])
 
 -- no name is there in a directory that was removed: what is ESTALE (116) of the directory is ENOENT (2) of a name in it
 abbrev pub below : ℕ → ℕ
 below e = if e == 116 then 2 else e
 
 abbrev pub child_at : Result Path ℕ → Name → Result Path ℕ
-child_at (Ok p) n = child_of p n
+child_at (Ok p) n = path_inside p n
 child_at (Err e) n = Err (below e)
 
 abbrev pub on_path : Result Path ℕ → (Path → Step) → Step
@@ -185,8 +185,8 @@ open_made kinds.Dir n i = refuse 21
 open_made k n i = Tell (Made k n i)
 
 -- of a length: a file that ends before
-abbrev pub reach : Path → ℕ → ℕ → Step
-reach p end n = if nat_lt n end then Ask (ask.Truncate p end) after.Finish else Tell Done
+abbrev pub lengthen : Path → ℕ → ℕ → Step
+lengthen p end n = if nat_lt n end then Ask (ask.Truncate p end) after.Finish else Tell Done
 
 -- a reply that such a request has, or a refusal
 abbrev pub on_ok : Step → Reply → Step
@@ -242,5 +242,5 @@ next after.List r = rows r
 next after.OpenFile r = on_kind open_file r
 next after.OpenDir r = on_kind open_dir r
 next (after.Free p q) r = or_if errno.ENOENT (Ask (ask.Rename p q) after.Finish) (on_kind (λ k. refuse 17)) r
-next (after.Reach p end) r = on_stat (λ k n i. reach p end n) r
+next (after.Reach p end) r = on_stat (λ k n i. lengthen p end n) r
 next after.Finish r = on_ok (Tell Done) r

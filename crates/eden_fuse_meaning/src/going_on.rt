@@ -17,7 +17,7 @@ ghost use Rattle.eden_fuse_meaning.specs.Steps.{
   open_file,
   open_made,
   or_if,
-  reach,
+  lengthen,
   refuse,
   refused,
   rows,
@@ -231,7 +231,7 @@ fn rows(reply: Reply) -> Step
 }
 
 fn reach(path: Path, end: u64, reply: &Reply) -> Step
-    ensures { result ≡ on_stat (λ k n i. reach path end n) reply.now }
+    ensures { result ≡ on_stat (λ k n i. lengthen path end n) reply.now }
 {
     match reply {
         Reply::Stat(_, size, _) => {

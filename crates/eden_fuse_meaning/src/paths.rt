@@ -1,6 +1,6 @@
 // Paths of messages, or the numbers of errors.
 ghost use Rattle.std.specs.Prelude.{◌≡◌, IfOk};
-ghost use Rattle.eden_fuse_meaning.specs.Steps.{below, child_at, child_of};
+ghost use Rattle.eden_fuse_meaning.specs.Steps.{below, child_at, path_inside};
 
 use eden_model::{Name, Path, name_refusal};
 use std::alloc::{AllocError, Global};
@@ -25,7 +25,7 @@ pub(crate) fn path_at(
 
 // The path of a name below another.
 fn child_of(alloc: Global, path: &Path, name: &[u8]) -> Result<Result<Path, u32>, AllocError>
-    ensures { IfOk result (λ r. r ≡ child_of path.now name.now) }
+    ensures { IfOk result (λ r. r ≡ path_inside path.now name.now) }
 {
     if let Some(errno) = name_refusal(name) {
         return Ok(Err(u32::from(errno.number())));

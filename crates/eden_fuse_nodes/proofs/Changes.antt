@@ -4,7 +4,7 @@ use Rattle.std.proofs.lemmas.Bool.{cases_eq, eq-eqb, ne_eqb, false≢true}
 use Rattle.std.proofs.lemmas.Option.{none-some, same_Some}
 use Rattle.eden_fuse_nodes.specs.declared.place.Place.{Place}
 use Rattle.eden_fuse_nodes.specs.declared.known.Known.{Known}
-use Rattle.eden_fuse_nodes.specs.Tables.{Table, root, known, place_in, place_of, count_in, standing, nowhere, moved, once_more, IsBare, IsTable, Learns}
+use Rattle.eden_fuse_nodes.specs.Tables.{Table, root, known, place_in, place_of, count_in, standing, nowhere, moved, once_more, IsBare, IsNodeTable, Learns}
 use Rattle.eden_fuse_nodes.specs.Indexing.{IsIndexed}
 
 -- ---- what is known of one node
@@ -53,7 +53,7 @@ module _ (at : Place → Option ℕ) (old : Table) (next : ℕ) (x : IsIndexed a
   pub bare_place : (p : Place) → IsBare old p → at p ≡ None
   bare_place p b = none_of (at p) (λ i e. b i (x.stands p i e))
 
-  pub is_table : IsTable old
+  pub is_table : IsNodeTable old
   is_table = record {
     told = λ i k e. let t = x.told i k e in (t.0, t.2);
     alone = λ i j p s r. same_Some i j (sym (x.found p i s) ∙ x.found p j r);

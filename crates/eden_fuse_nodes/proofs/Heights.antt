@@ -10,7 +10,7 @@ use Rattle.std.proofs.lemmas.Option.{none-some}
 use Rattle.eden_model.specs.Trees.{Name}
 use Rattle.eden_fuse_nodes.specs.declared.place.Place.{Place}
 use Rattle.eden_fuse_nodes.specs.declared.known.Known.{Known}
-use Rattle.eden_fuse_nodes.specs.Tables.{Table, IsTable, known, place_in, place_of, root}
+use Rattle.eden_fuse_nodes.specs.Tables.{Table, IsNodeTable, known, place_in, place_of, root}
 use Rattle.eden_fuse_nodes.specs.Ways.{LeadsUp, IsBelowRoot}
 use Rattle.eden_fuse_nodes.proofs.Orders.{same_number}
 use Rattle.eden_fuse_nodes.proofs.PathLemmas.{one_way}
@@ -29,7 +29,7 @@ length-on_way t id [] l = refl
 length-on_way t id (n ∷ up) l = omega (arith, length-on_way t l.0 up l.2)
 
 -- a node whose way is longer isn't on it
-apart : (t : Table) → IsTable t → (j : ℕ) (longer : List Name) → LeadsUp t j longer → (id : ℕ) (up : List Name) (l : LeadsUp t id up) → length up < length longer
+apart : (t : Table) → IsNodeTable t → (j : ℕ) (longer : List Name) → LeadsUp t j longer → (id : ℕ) (up : List Name) (l : LeadsUp t id up) → length up < length longer
     → AllByRecursion (λ i. is_number j i ≡ false) (on_way t id up l)
 apart t x j longer m id [] l h = tt
 apart t x j longer m id (n ∷ up) l h = (
@@ -39,7 +39,7 @@ apart t x j longer m id (n ∷ up) l h = (
   apart t x j longer m l.0 up l.2 (omega (arith, h)),
 )
 
-distinct : (t : Table) → IsTable t → (id : ℕ) (up : List Name) (l : LeadsUp t id up) → IsDistinct is_number (on_way t id up l)
+distinct : (t : Table) → IsNodeTable t → (id : ℕ) (up : List Name) (l : LeadsUp t id up) → IsDistinct is_number (on_way t id up l)
 unfolding IsDistinct
 distinct t x id [] l = tt
 distinct t x id (n ∷ up) l = (apart t x id (n ∷ up) l l.0 up l.2 (omega arith), distinct t x l.0 up l.2)
@@ -55,7 +55,7 @@ all_known t id (n ∷ up) l i e = ⊎_elim
     (λ b. all_known t l.0 up l.2 i (rw b at e))
     (cases_Bool (is_number i id))
 
-pub way_bound : (t : Table) → IsTable t → (id : ℕ) (up : List Name) → LeadsUp t id up → length up ≤ length t
+pub way_bound : (t : Table) → IsNodeTable t → (id : ℕ) (up : List Name) → LeadsUp t id up → length up ≤ length t
 way_bound t x id up l =
     let many = length-le_from_keys (eq_by_cmp_equiv nat_cmp_total) (on_way t id up l) t (distinct t x id up l) (all_known t id up l) in
     omega (arith, many, length-on_way t id up l)
@@ -66,7 +66,7 @@ as_tested : (b : Bool) {P : Type 0} → (b ≡ true → P) → (b ≡ false → 
 as_tested true h k = h refl
 as_tested false h k = k refl
 
-module _ (t : Table) (x : IsTable t) (id node : ℕ) (up : List Name) (w : Walked t id node up) where
+module _ (t : Table) (x : IsNodeTable t) (id node : ℕ) (up : List Name) (w : Walked t id node up) where
   -- it can't go on, as no way can be as long
   stops : length t ≤ length up → node ≢ root → ¬ IsBelowRoot t id
   stops h n b =

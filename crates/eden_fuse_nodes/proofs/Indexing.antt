@@ -5,7 +5,7 @@ use Rattle.std.proofs.lemmas.Option.{none-some, same_Some}
 use Rattle.eden_fuse_nodes.specs.declared.place.Place.{Place}
 use Rattle.eden_fuse_nodes.specs.declared.known.Known.{Known}
 use Rattle.eden_fuse_nodes.specs.Tables.{root, place_in, standing, nowhere, moved, once_more, less, dropped}
-use Rattle.eden_fuse_nodes.specs.Indexing.{IsIndexed, without}
+use Rattle.eden_fuse_nodes.specs.Indexing.{IsIndexed, without_place}
 
 -- a function of numbers that was changed at one of them
 module _ {X : Type 0} (old new : ℕ → X) (id : ℕ) (x : X) (h : (i : ℕ) → new i ≡ (if i == id then x else old i)) where
@@ -181,6 +181,6 @@ module _ (eq : Place → Place → Bool) (exact : IsExact eq) where
         }
 
     -- a node that isn't known any more stands nowhere, wherever it stood
-    pub left : (o : Option Place) → place_in (known id) ≡ o → ((q : Place) → at' q ≡ without eq o at q) → place_in y ≡ None → IsIndexed at' known' next'
+    pub left : (o : Option Place) → place_in (known id) ≡ o → ((q : Place) → at' q ≡ without_place eq o at q) → place_in y ≡ None → IsIndexed at' known' next'
     left None stood ha py = stays ha (py ∙ sym stood)
     left (Some p) stood ha py = taken p ha py (x.found p id stood)

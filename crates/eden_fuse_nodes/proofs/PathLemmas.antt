@@ -7,7 +7,7 @@ use Rattle.std.proofs.lemmas.Option.{none-some, same_Some}
 use Rattle.eden_model.specs.Trees.{Name, Path}
 use Rattle.eden_fuse_nodes.specs.declared.place.Place.{Place}
 use Rattle.eden_fuse_nodes.specs.declared.known.Known.{Known}
-use Rattle.eden_fuse_nodes.specs.Tables.{Table, IsTable, known, place_in, place_of, count_of, standing, moved, root, Learns, Removes}
+use Rattle.eden_fuse_nodes.specs.Tables.{Table, IsNodeTable, known, place_in, place_of, count_of, standing, moved, root, Learns, RemovesNode}
 use Rattle.eden_fuse_nodes.specs.Ways.{LeadsUp, LiesAt}
 use Rattle.eden_fuse_nodes.specs.Laws.{OnePath, OneNode, GoesThrough, LearntLies, RemovedLiesNowhere, RenamedLiesThere}
 use Rattle.eden_fuse_nodes.proofs.Changes.{none_of, place-nowhere}
@@ -16,13 +16,13 @@ use Rattle.eden_fuse_nodes.proofs.Orders.{order, exact}
 
 -- ---- one way from a node, and one node at its end
 
-root_bare : (t : Table) → IsTable t → place_of t root ≡ None
+root_bare : (t : Table) → IsNodeTable t → place_of t root ≡ None
 root_bare t x = ap place_in (none_of (known t root) (λ k e. let b = (x.told root k e).0 in omega (arith, b)))
 
 place_is : (r s : Place) → r ≡ s → (r.parent ≡ s.parent) × (r.name ≡ s.name)
 place_is r s e = (ap (λ (x : Place). x.parent) e, ap (λ (x : Place). x.name) e)
 
-pub one_way : (t : Table) → IsTable t → (i : ℕ) (a b : List Name) → LeadsUp t i a → LeadsUp t i b → a ≡ b
+pub one_way : (t : Table) → IsNodeTable t → (i : ℕ) (a b : List Name) → LeadsUp t i a → LeadsUp t i b → a ≡ b
 one_way t x i [] [] l m = refl
 one_way t x i [] (n ∷ b) l m = absurd (none-some _ (sym (ap (place_of t) l ∙ root_bare t x) ∙ m.1))
 one_way t x i (n ∷ a) [] l m = absurd (none-some _ (sym (ap (place_of t) m ∙ root_bare t x) ∙ l.1))
@@ -31,7 +31,7 @@ one_way t x i (n ∷ a) (o ∷ b) l m =
     let rest : a ≡ b = one_way t x l.0 a b l.2 (subst (λ (j : ℕ). LeadsUp t j b) (sym same.0) m.2) in
     (λ k. same.1 k ∷ rest k)
 
-pub one_end : (t : Table) → IsTable t → (i j : ℕ) (a : List Name) → LeadsUp t i a → LeadsUp t j a → i ≡ j
+pub one_end : (t : Table) → IsNodeTable t → (i j : ℕ) (a : List Name) → LeadsUp t i a → LeadsUp t j a → i ≡ j
 one_end t x i j [] l m = l ∙ sym m
 one_end t x i j (n ∷ a) l m =
     let up = one_end t x l.0 m.0 a l.2 m.2 in
@@ -58,10 +58,10 @@ stands_or (Some q) p = elim (by_place (eq_by_cmp order) exact q p) [
 ]
 
 -- what stands somewhere isn't the root
-never_root : (t : Table) → IsTable t → (i : ℕ) (s : Place) → place_of t i ≡ Some s → i ≢ root
+never_root : (t : Table) → IsNodeTable t → (i : ℕ) (s : Place) → place_of t i ≡ Some s → i ≢ root
 never_root t x i s e r = none-some s (sym (ap (place_of t) r ∙ root_bare t x) ∙ e)
 
-module _ (old new : Table) (x : IsTable old) (p q : Place) (same : (i : ℕ) → place_of old i ≢ Some p → place_of old i ≢ Some q → place_of new i ≡ place_of old i)
+module _ (old new : Table) (x : IsNodeTable old) (p q : Place) (same : (i : ℕ) → place_of old i ≢ Some p → place_of old i ≢ Some q → place_of new i ≡ place_of old i)
     (u v : List Name) (pu : LeadsUp old p.parent u) (qv : LeadsUp old q.parent v) where
   -- a node that stands at a place has its way
   at_place : (r : Place) (w : List Name) → LeadsUp old r.parent w → (i : ℕ) (up : List Name) → LeadsUp old i up → place_of old i ≡ Some r → up ≡ r.name ∷ w
@@ -117,7 +117,7 @@ module _ (old new : Table) (x : IsTable old) (p q : Place) (same : (i : ℕ) →
 
 -- ---- a way that goes through a place at which nothing stands any more
 
-module _ (old new : Table) (x : IsTable old) (p : Place) (r : Removes old new p) (u : List Name) (pu : LeadsUp old p.parent u) where
+module _ (old new : Table) (x : IsNodeTable old) (p : Place) (r : RemovesNode old new p) (u : List Name) (pu : LeadsUp old p.parent u) where
   stood : (i : ℕ) → LeadsUp old i (p.name ∷ u) → place_of old i ≡ Some p
   stood i l = stood_at old new x p p (λ j n o. ap place_in (r.kept j n)) u u pu pu p u pu i l
 

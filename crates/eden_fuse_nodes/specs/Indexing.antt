@@ -12,6 +12,6 @@ pub record IsIndexed (at : Place → Option ℕ) (known : ℕ → Option Known) 
   pub first : root < next
 
 -- the node at each place, but for one that is left, if any is
-abbrev pub without : (Place → Place → Bool) → Option Place → (Place → Option ℕ) → Place → Option ℕ
-without eq None at q = at q
-without eq (Some p) at q = if eq p q then None else at q
+abbrev pub without_place : (Place → Place → Bool) → Option Place → (Place → Option ℕ) → Place → Option ℕ
+without_place eq None at q = at q
+without_place eq (Some p) at q = if eq p q then None else at q

@@ -2,15 +2,15 @@
 use Rattle.std.specs.Prelude.{◌≡◌, ℕ, [], ◌∷◌, ◌++◌}
 use Rattle.eden_model.specs.Trees.{Name, Path}
 use Rattle.eden_fuse_nodes.specs.declared.place.Place.{Place}
-use Rattle.eden_fuse_nodes.specs.Tables.{Table, IsTable, Learns, Removes, Renames}
+use Rattle.eden_fuse_nodes.specs.Tables.{Table, IsNodeTable, Learns, RemovesNode, Renames}
 use Rattle.eden_fuse_nodes.specs.Ways.{LiesAt}
 
 -- a node lies at one path, and at a path lies one node
 abbrev pub OnePath : Type 0
-OnePath = (t : Table) (id : ℕ) (p q : Path) → IsTable t → LiesAt t id p → LiesAt t id q → p ≡ q
+OnePath = (t : Table) (id : ℕ) (p q : Path) → IsNodeTable t → LiesAt t id p → LiesAt t id q → p ≡ q
 
 abbrev pub OneNode : Type 0
-OneNode = (t : Table) (i j : ℕ) (p : Path) → IsTable t → LiesAt t i p → LiesAt t j p → i ≡ j
+OneNode = (t : Table) (i j : ℕ) (p : Path) → IsNodeTable t → LiesAt t i p → LiesAt t j p → i ≡ j
 
 -- the path goes through the name in the directory at the other
 abbrev pub GoesThrough : Path → Path → Name → Type 0
@@ -31,7 +31,7 @@ pub record TakesAway (old new : Table) (above : Path) (name : Name) : Type 0 whe
   pub only : (i : ℕ) (path : Path) → LiesAt new i path → LiesAt old i path
 
 abbrev pub RemovedLiesNowhere : Type 0
-RemovedLiesNowhere = (old new : Table) (p : Place) (above : Path) → IsTable old → Removes old new p → LiesAt old p.parent above
+RemovedLiesNowhere = (old new : Table) (p : Place) (above : Path) → IsNodeTable old → RemovesNode old new p → LiesAt old p.parent above
     → TakesAway old new above p.name
 
 -- what lay at the first place or below it lies at the second or below it; what lay at the second or below it before, and not at
@@ -44,5 +44,5 @@ pub record MovesAll (old new : Table) (from : Path) (n : Name) (to : Path) (m : 
   pub only : (i : ℕ) (path : Path) → LiesAt new i path → (was : Path) × LiesAt old i was
 
 abbrev pub RenamedLiesThere : Type 0
-RenamedLiesThere = (old new : Table) (p q : Place) (from to : Path) → IsTable old → Renames old new p q → LiesAt old p.parent from → LiesAt old q.parent to
+RenamedLiesThere = (old new : Table) (p q : Place) (from to : Path) → IsNodeTable old → Renames old new p q → LiesAt old p.parent from → LiesAt old q.parent to
     → ¬ GoesThrough to from p.name → MovesAll old new from p.name to q.name

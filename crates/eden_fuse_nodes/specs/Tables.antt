@@ -58,13 +58,13 @@ abbrev pub StandsAlone : Table → ℕ → Place → Type 0
 StandsAlone t id p = (place_of t id ≡ Some p) × ((i : ℕ) → place_of t i ≡ Some p → i ≡ id)
 
 -- what every table keeps: a node that is known was told of, and is the only one at its place; none is the root
-pub record IsTable (t : Table) : Type 0 where
+pub record IsNodeTable (t : Table) : Type 0 where
   pub told : (i : ℕ) (k : Known) → known t i ≡ Some k → (root < i) × (0 < k.count)
   pub alone : (i j : ℕ) (p : Place) → place_of t i ≡ Some p → place_of t j ≡ Some p → i ≡ j
 
 -- all is as before
-abbrev pub IsSame : Table → Table → Type 0
-IsSame old new = (i : ℕ) → known new i ≡ known old i
+abbrev pub IsSameNodes : Table → Table → Type 0
+IsSameNodes old new = (i : ℕ) → known new i ≡ known old i
 
 -- a node that stood nowhere stands at the place; all else is as before
 abbrev pub Moves : Table → Table → ℕ → Place → Type 0
@@ -87,7 +87,7 @@ abbrev pub Forgets : Table → Table → ℕ → ℕ → Type 0
 Forgets old new id n = (i : ℕ) → known new i ≡ (if i == id then less n (known old i) else known old i)
 
 -- what stood at the place stands nowhere; all else is as before
-pub record Removes (old new : Table) (p : Place) : Type 0 where
+pub record RemovesNode (old new : Table) (p : Place) : Type 0 where
   pub gone : (i : ℕ) → place_of old i ≡ Some p → known new i ≡ nowhere (known old i)
   pub kept : (i : ℕ) → place_of old i ≢ Some p → known new i ≡ known old i
 

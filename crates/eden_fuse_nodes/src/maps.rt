@@ -3,7 +3,7 @@ ghost use Rattle.std.specs.Prelude.{◌≡◌, ◌==◌, ℕ, None, Some, OnOk, 
 ghost use Rattle.std.specs.Ordering.{nat_cmp, eq_by_cmp};
 ghost use Rattle.std.specs.BTreeMap.{get, IsUnchanged};
 ghost use Rattle.eden_fuse_nodes.specs.Tables.{standing, nowhere, moved, once_more, less, dropped};
-ghost use Rattle.eden_fuse_nodes.specs.Indexing.{without};
+ghost use Rattle.eden_fuse_nodes.specs.Indexing.{without_place};
 
 use crate::known::Known;
 use crate::nodes::Full;
@@ -34,7 +34,7 @@ pub(crate) fn clear(places: &mut BTreeMap<Place, u64>, place: &Place) -> Option<
 /// What is known of a node says where it stood: there is no node any more.
 pub(crate) fn leave(places: &mut BTreeMap<Place, u64>, known: &Known)
     ensures { (q : Place) → get ⟦<Place as Ord>⟧.cmp places.new q
-        ≡ without (eq_by_cmp ⟦<Place as Ord>⟧.cmp) known.now.place (get ⟦<Place as Ord>⟧.cmp places.old) q }
+        ≡ without_place (eq_by_cmp ⟦<Place as Ord>⟧.cmp) known.now.place (get ⟦<Place as Ord>⟧.cmp places.old) q }
 {
     match &known.place {
         None => {}

@@ -3,11 +3,11 @@ ghost use Rattle.eden_fuse_nodes.specs.Tables.{
   Forgets,
   IsBare,
   IsCleared,
-  IsSame,
-  IsTable,
+  IsSameNodes,
+  IsNodeTable,
   Learns,
   Moves,
-  Removes,
+  RemovesNode,
   Renames,
   Scatters,
   StandsAlone,
@@ -78,7 +78,7 @@ impl Nodes {
     fn add(&mut self, alloc: Global, place: Place) -> Result<u64, Full>
         requires { IsBare self.old place }
         ensures ok { IfOk result (λ id. Learns self.old self.new id place) }
-        ensures err { OnErr result (IsSame self.old self.new) }
+        ensures err { OnErr result (IsSameNodes self.old self.new) }
     {
         let id = self.next;
         if id == u64::MAX {
@@ -97,7 +97,7 @@ impl Nodes {
     /// An error changes nothing.
     pub fn learn(&mut self, alloc: Global, place: Place) -> Result<u64, Full>
         ensures ok { IfOk result (λ id. Learns self.old self.new id place) }
-        ensures err { OnErr result (IsSame self.old self.new) }
+        ensures err { OnErr result (IsSameNodes self.old self.new) }
     {
         match self.places.get(&place).copied() {
             None => self.add(alloc, place),
@@ -122,7 +122,7 @@ impl Nodes {
 
     // The node at the place stands nowhere; which it is.
     fn detach(&mut self, place: &Place) -> Option<u64>
-        ensures removes { Removes self.old self.new place.now }
+        ensures removes { RemovesNode self.old self.new place.now }
         ensures cleared { IsCleared self.old self.new place.now }
         ensures was { MatchOption result (IsBare self.old place.now) (λ id. StandsAlone self.old id place.now) }
     {
@@ -137,7 +137,7 @@ impl Nodes {
         requires nowhere { place_of self.old id ≡ None }
         requires bare { IsBare self.old place }
         ensures ok { OnOk result (Moves self.old self.new id place) }
-        ensures err { OnErr result (IsSame self.old self.new) }
+        ensures err { OnErr result (IsSameNodes self.old self.new) }
     {
         let copy = place.copy(alloc)?;
         settle(&mut self.places, place, id)?;
@@ -147,7 +147,7 @@ impl Nodes {
 
     /// Nothing stands at the place any more. What stood there stays known until it is forgotten.
     pub fn remove(&mut self, place: &Place)
-        ensures { Removes self.old self.new place.now }
+        ensures { RemovesNode self.old self.new place.now }
     {
         self.detach(place);
     }
@@ -225,7 +225,7 @@ impl Nodes {
 
     /// What each table keeps, as `node_laws` asks for it. It does nothing.
     pub fn keeps(&self)
-        ensures { IsTable self.now }
+        ensures { IsNodeTable self.now }
     {
         let _ = &self.nodes;
     }

@@ -10,13 +10,13 @@ use Rattle.eden_fuse_format.specs.Members.{members_text}
 use Rattle.eden_fuse_session.specs.declared.service.Said.TheVariants.{Answers}
 use Rattle.eden_fuse_session.specs.declared.turning.Turned.{Turned}
 use Rattle.eden_fuse_session.specs.declared.turning.Turned.TheVariants as turned
-use Rattle.eden_fuse_session.specs.Turns.{Told, Line, Refuses, Replies, Does, Turn, no_memory, text_of, told}
+use Rattle.eden_fuse_session.specs.Turns.{Told, Line, SendsNoMemory, SendsAnswer, Does, Turn, no_memory, text_of, told}
 
 pub refusal_len : (unique : ℕ) → length (text_of unique no_memory) ≡ 16
 unfolding out_header members_text
 refusal_len unique = refl
 
-refuses_in_less : (unique : ℕ) (old new : Line) (less room : ℕ) (r : Turned) → less ≤ room → Refuses unique old new room r → Refuses unique old new less r
+refuses_in_less : (unique : ℕ) (old new : Line) (less room : ℕ) (r : Turned) → less ≤ room → SendsNoMemory unique old new room r → SendsNoMemory unique old new less r
 refuses_in_less unique old new less room turned.NoMemory le refuses = refuses
 refuses_in_less unique old new less room turned.NotSent le refuses = refuses
 refuses_in_less unique old new less room turned.NoRoom le refuses = (refuses.0, refuses.1, omega (arith, le, refuses.2))
@@ -24,7 +24,7 @@ refuses_in_less unique old new less room turned.Answered le refuses = elim refus
 refuses_in_less unique old new less room turned.Silent le refuses = elim refuses [ ]
 refuses_in_less unique old new less room turned.Unframed le refuses = elim refuses [ ]
 
-replies_in_less : (unique : ℕ) (t : Told) (old new : Line) (less room : ℕ) (r : Turned) → less ≤ room → Replies unique t old new room r → Replies unique t old new less r
+replies_in_less : (unique : ℕ) (t : Told) (old new : Line) (less room : ℕ) (r : Turned) → less ≤ room → SendsAnswer unique t old new room r → SendsAnswer unique t old new less r
 replies_in_less unique None old new less room turned.Silent le replies = replies
 replies_in_less unique None old new less room turned.Answered le replies = elim replies [ ]
 replies_in_less unique None old new less room turned.NotSent le replies = elim replies [ ]

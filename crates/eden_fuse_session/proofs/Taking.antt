@@ -5,7 +5,7 @@ use Rattle.eden_fuse_format.specs.Asked.{Asked}
 use Rattle.eden_fuse_session.specs.declared.turning.Turned.{Turned}
 use Rattle.eden_fuse_session.specs.Sending.{Known, Gives, IsAtEnd}
 use Rattle.eden_fuse_session.specs.Turns.{Told, Turn}
-use Rattle.eden_fuse_session.specs.Sessions.{Serving, Serves, Session, answer_room}
+use Rattle.eden_fuse_session.specs.Sessions.{Serving, Serves, MessageSession, answer_room}
 
 -- nothing was received
 gives_none : (w : Known) → Gives w w []
@@ -51,7 +51,7 @@ module _ {S : Type 0} (answers : S → Header → Asked → Told → S → Type 
   }
 
   -- no more will come
-  pub ended : (s t : Serving S) (w v x : Known) → Through s t w v → (x ≡ v) × IsAtEnd v → Session answers s t w x (Ok tt)
+  pub ended : (s t : Serving S) (w v x : Known) → Through s t w v → (x ≡ v) × IsAtEnd v → MessageSession answers s t w x (Ok tt)
   ended s t w v x through end = record {
     messages = through.messages;
     given = subst (λ (k : Known). Gives w k through.messages) (sym end.0) through.given;

@@ -30,7 +30,7 @@ EndsBy (Err fault.Receive) messages waiting = ⊤
 EndsBy (Err fault.Memory) messages waiting = messages ≡ []
 
 -- these messages were received, and each had its turn
-pub record Session {S : Type 0} (answers : S → Header → Asked → Told → S → Type 0) (old new : Serving S) (waiting left : Known)
+pub record MessageSession {S : Type 0} (answers : S → Header → Asked → Told → S → Type 0) (old new : Serving S) (waiting left : Known)
     (r : Result ⊤ SessionFault) : Type 0 where
   pub messages : List (List ℕ)
   pub given : Gives waiting left messages

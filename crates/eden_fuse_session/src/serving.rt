@@ -1,6 +1,6 @@
 ghost use Rattle.std.specs.Prelude.{◌≡◌, ◌≤◌, length, take, vec_capacity, IfOk};
 ghost use Rattle.eden_fuse_session.specs.Sending.{Receives};
-ghost use Rattle.eden_fuse_session.specs.Sessions.{Session, answer_room};
+ghost use Rattle.eden_fuse_session.specs.Sessions.{MessageSession, answer_room};
 ghost use Rattle.eden_fuse_session.specs.Turns.{Turn};
 
 use crate::receiver::{Received, Receiver};
@@ -72,7 +72,7 @@ pub fn session<V: Receiver, C: Sender, S: Service>(
     sender: &mut C,
     service: &mut S,
 ) -> Result<(), SessionFault>
-    ensures { Session S.answers (service.old, (C.sent sender.old, C.failures sender.old))
+    ensures { MessageSession S.answers (service.old, (C.sent sender.old, C.failures sender.old))
         (service.new, (C.sent sender.new, C.failures sender.new))
         (V.waiting receiver.old) (V.waiting receiver.new) result }
 {

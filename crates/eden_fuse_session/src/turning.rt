@@ -1,7 +1,7 @@
 ghost use Rattle.std.specs.Prelude.{◌≡◌, ◌≤◌, [], vec_capacity};
 ghost use Rattle.eden_fuse_format.specs.Answers.{IsBrief};
 ghost use Rattle.eden_fuse_session.specs.declared.service.Said.TheVariants.{Answers};
-ghost use Rattle.eden_fuse_session.specs.Turns.{IsBriefly, Refuses, Replies, Turn, told};
+ghost use Rattle.eden_fuse_session.specs.Turns.{IsBriefly, SendsNoMemory, SendsAnswer, Turn, told};
 
 use crate::sender::Sender;
 use crate::service::{Said, Service};
@@ -34,7 +34,7 @@ pub enum Turned {
 // Refuses a request for want of memory, in place of an answer that the room is too small for.
 fn refuse<C: Sender>(out: &mut Vec<u8>, sender: &mut C, unique: u64) -> Turned
     requires { out.old.items ≡ [] }
-    ensures refuses { Refuses unique (C.sent sender.old, C.failures sender.old)
+    ensures refuses { SendsNoMemory unique (C.sent sender.old, C.failures sender.old)
         (C.sent sender.new, C.failures sender.new) (vec_capacity out.old) result }
     ensures room { vec_capacity out.old ≤ vec_capacity out.new }
 {
@@ -50,7 +50,7 @@ fn refuse<C: Sender>(out: &mut Vec<u8>, sender: &mut C, unique: u64) -> Turned
 // Sends an answer.
 fn reply<C: Sender>(out: &mut Vec<u8>, sender: &mut C, unique: u64, answer: &Answer<'_>) -> Turned
     requires { IsBrief answer.now }
-    ensures replies { Replies unique (told (Answers answer.now) []) (C.sent sender.old, C.failures sender.old)
+    ensures replies { SendsAnswer unique (told (Answers answer.now) []) (C.sent sender.old, C.failures sender.old)
         (C.sent sender.new, C.failures sender.new) (vec_capacity out.old) result }
     ensures room { vec_capacity out.old ≤ vec_capacity out.new }
 {
@@ -73,7 +73,7 @@ fn say<C: Sender>(
     room: &Vec<u8>,
 ) -> Turned
     requires { IsBriefly said room.now.items }
-    ensures replies { Replies unique (told said room.now.items) (C.sent sender.old, C.failures sender.old)
+    ensures replies { SendsAnswer unique (told said room.now.items) (C.sent sender.old, C.failures sender.old)
         (C.sent sender.new, C.failures sender.new) (vec_capacity out.old) result }
     ensures room { vec_capacity out.old ≤ vec_capacity out.new }
 {

@@ -18,7 +18,7 @@ use Rattle.eden_fuse_session.specs.declared.sender.Sender.{Ghosts as Sender}
 use Rattle.eden_fuse_session.specs.declared.serving.SessionFault.{SessionFault}
 use Rattle.eden_fuse_shown.specs.declared.manner.Manner.{Manner}
 use Rattle.eden_fuse_life.specs.declared.fault.FolderFault.{FolderFault}
-use Rattle.eden_fuse_life.specs.Lives.{first_fault}
+use Rattle.eden_fuse_life.specs.Lives.{first_folder_fault}
 use Rattle.eden_fuse_host.specs.declared.sharing.FolderTable.{FolderTable}
 use Rattle.eden_fuse_host.specs.Lines.{Coming}
 use Rattle.eden_fuse_host.specs.Sharing.{IsLeft, ShowsTable}
@@ -29,7 +29,7 @@ module _ {W F V O : Type 0} (w : Ghosts W) (f : Files F W) (v : Receiver V) (o :
     (limit : ℕ) (base : Base) (settings : Settings) (m : Manner) (files : F) (left : SharedFolderEnding F) where
   -- the first fault of a served folder is none of the opening
   lived : (said : Result ⊤ SessionFault) (unstored : Option ℕ) (u : Option FilesFault) → IsShown w f v o Comes limit base settings m files left
-      → LivesSharedBy w f v o Comes limit (first_fault said unstored u) base settings m files left
+      → LivesSharedBy w f v o Comes limit (first_folder_fault said unstored u) base settings m files left
   lived (Err fault) unstored u h = h
   lived (Ok _) (Some errno) u h = h
   lived (Ok _) None (Some why) h = h
@@ -42,8 +42,8 @@ module _ {W F V O : Type 0} (w : Ghosts W) (f : Files F W) (v : Receiver V) (o :
   ended t room (Ok x) opened is ok err ends =
       let shows = subst (λ (y : Room). ShowsTable v o Comes (attempted w f) w.honest w.opening w.numbers (terms_at (attempted w f) y limit t) m x) is ok in
       let N = replay_numbers w.numbers shows.ended.history in
-      let outcome : left.outcome ≡ first_fault x.said left.unstored left.unclosed =
-      ends.2 ∙ ap (λ (why : Option ℕ). first_fault x.said why left.unclosed) (sym ends.1) in
+      let outcome : left.outcome ≡ first_folder_fault x.said left.unstored left.unclosed =
+      ends.2 ∙ ap (λ (why : Option ℕ). first_folder_fault x.said why left.unclosed) (sym ends.1) in
       let whole : IsShown w f v o Comes limit base settings m files left = record {
         begun = t;
         opened = opened;

@@ -13,14 +13,14 @@ use Rattle.eden_checkout.specs.Attempted.{attempted}
 use Rattle.eden_checkout.specs.Checkouts.{Checkout}
 use Rattle.eden_shared.specs.declared.account.Terms.{Terms}
 use Rattle.eden_stdio_life.specs.declared.opening.Base.{Base}
-use Rattle.eden_stdio_life.specs.Opening.{Closes, IsBacking, IsOpened, IsRefused}
+use Rattle.eden_stdio_life.specs.Opening.{Closes, IsBacking, IsOpened, IsNotOpened}
 use Rattle.eden_fuse_session.specs.declared.receiver.Receiver.{Ghosts as Receiver}
 use Rattle.eden_fuse_session.specs.declared.sender.Sender.{Ghosts as Sender}
 use Rattle.eden_fuse_session.specs.declared.serving.SessionFault.{SessionFault}
 use Rattle.eden_fuse_shown.specs.declared.manner.Manner.{Manner}
 use Rattle.eden_fuse_life.specs.declared.fault.FolderFault.{FolderFault}
 use Rattle.eden_fuse_life.specs.declared.fault.FolderFault.TheVariants as life
-use Rattle.eden_fuse_life.specs.Lives.{first_fault}
+use Rattle.eden_fuse_life.specs.Lives.{first_folder_fault}
 use Rattle.eden_fuse_host.specs.declared.sharing.FolderTable.{FolderTable}
 use Rattle.eden_fuse_host.specs.Lines.{Coming}
 use Rattle.eden_fuse_host.specs.Sharing.{IsLeft}
@@ -38,12 +38,12 @@ module _ {W F : Type 0} (w : Ghosts W) (f : Files F W) where
   -- an open checkout was closed, and the first fault told, beside what the last stores came to: it was shown, or there was no memory
   -- to share it
   abbrev pub Ends : Result (FolderTable (Checkout F)) (Checkout F) → SharedFolderEnding F → Type 0
-  Ends (Ok x) left = ClosesAs x.table left × (left.unstored ≡ x.unstored) × (left.outcome ≡ first_fault x.said x.unstored left.unclosed)
+  Ends (Ok x) left = ClosesAs x.table left × (left.unstored ≡ x.unstored) × (left.outcome ≡ first_folder_fault x.said x.unstored left.unclosed)
   Ends (Err t) left = ClosesAs t left × (left.unstored ≡ None) × (left.outcome ≡ Err (life.Open opens.Memory))
 
   -- the overlay wasn't opened, for that fault
   pub record IsUnopened (base : Base) (files : F) (why : OpenFault) (left : SharedFolderEnding F) : Type 0 where
-    pub refused : IsRefused w f base files why left.files
+    pub refused : IsNotOpened w f base files why left.files
     pub unstored : left.unstored ≡ None
     pub unclosed : left.unclosed ≡ None
 
@@ -68,7 +68,7 @@ module _ {W F : Type 0} (w : Ghosts W) (f : Files F W) where
       pub ended : Core (Checkout F)
       pub is : IsLeft v o Comes (attempted w f) w.honest w.opening w.numbers (opened_with settings limit begun) m said left.unstored ended
       pub closed : Closes w f base.root ended.table (replay w.opening ended.history) (replay_numbers w.numbers ended.history) left.unclosed left.files
-      pub told : left.outcome ≡ first_fault said left.unstored left.unclosed
+      pub told : left.outcome ≡ first_folder_fault said left.unstored left.unclosed
 
     abbrev pub LivesSharedBy : Result ⊤ FolderFault → Base → Settings → Manner → F → SharedFolderEnding F → Type 0
     LivesSharedBy (Err (life.Open why)) base settings m files left =

@@ -4,7 +4,7 @@ ghost use Rattle.eden_checkout.specs.Opening.{MayOpen};
 ghost use Rattle.eden_shared.specs.Lanes.{names_of};
 ghost use Rattle.eden_shared.specs.Opening.{AreTied};
 ghost use Rattle.eden_fuse_life.specs.declared.fault.FolderFault.TheVariants as life;
-ghost use Rattle.eden_fuse_life.specs.Lives.{first_fault};
+ghost use Rattle.eden_fuse_life.specs.Lives.{first_folder_fault};
 ghost use Rattle.eden_fuse_shared_life.specs.Lives.{Ends, LivesShared};
 
 use eden_checkout::{Checkout, OpenFault};
@@ -44,7 +44,7 @@ fn first_fault(
     unstored: Option<u32>,
     unclosed: Option<FilesFault>,
 ) -> Result<(), FolderFault>
-    ensures { result ≡ first_fault said unstored unclosed }
+    ensures { result ≡ first_folder_fault said unstored unclosed }
 {
     if let Err(fault) = said {
         return Err(FolderFault::Session(fault));

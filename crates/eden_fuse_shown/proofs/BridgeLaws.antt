@@ -11,7 +11,7 @@ use Rattle.eden_model.specs.Paths.{path_eq}
 use Rattle.eden_model.specs.Trees.{Path, Tree}
 use Rattle.eden_model.proofs.CallerLemmas.{path_eq-Decides}
 use Rattle.eden_fuse_nodes.specs.Laws.{OneNode, OnePath}
-use Rattle.eden_fuse_nodes.specs.Tables.{IsTable}
+use Rattle.eden_fuse_nodes.specs.Tables.{IsNodeTable}
 use Rattle.eden_fuse_nodes.specs.Tables.{Table as Nodes}
 use Rattle.eden_fuse_nodes.specs.Ways.{LiesAt}
 use Rattle.eden_fuse_session.specs.Turns.{Told}

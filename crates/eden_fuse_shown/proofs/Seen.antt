@@ -17,7 +17,7 @@ use Rattle.eden_model.specs.Operations.{with_content, written}
 use Rattle.eden_model.specs.Trees.{Name, Path}
 use Rattle.eden_fuse_nodes.specs.declared.place.Place.{Place}
 use Rattle.eden_fuse_nodes.specs.Laws.{OneNode}
-use Rattle.eden_fuse_nodes.specs.Tables.{IsTable, place_of, root}
+use Rattle.eden_fuse_nodes.specs.Tables.{IsNodeTable, place_of, root}
 use Rattle.eden_fuse_nodes.specs.Tables.{Table as Nodes}
 use Rattle.eden_fuse_nodes.specs.Ways.{LeadsUp, LiesAt}
 use Rattle.eden_fuse_shown.specs.Waiting.{Extent, can_join, extent_of, joined}
@@ -87,7 +87,7 @@ same_number a b e = numbers a b (nat_lt a b) (a == b) (eqb-true a b) e
 at_itself : (a : ℕ) → is_at (nat_cmp a) a ≡ true
 at_itself a = sym (ap is_eq (nat_cmp_is a a Equal refl))
 
-module _ (one : OneNode) (nodes : Nodes) (whole : IsTable nodes) where
+module _ (one : OneNode) (nodes : Nodes) (whole : IsNodeTable nodes) where
   -- .. is what waits for the node that lies there
   pub at_node : (t : Waits) (id : ℕ) (q : Path) → LiesAt nodes id q → waits_at nodes t q ≡ extent_of t id
   at_node t id q lies = tested (lies_at nodes q) (is_at (nat_cmp id)) t (λ i. agree (lies_at nodes q i) (is_at (nat_cmp id) i)

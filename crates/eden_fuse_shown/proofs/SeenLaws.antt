@@ -9,7 +9,7 @@ use Rattle.eden_model.specs.Operations.{edit, with_content, written}
 use Rattle.eden_model.specs.Paths.{path_eq}
 use Rattle.eden_model.specs.Trees.{Path, Tree}
 use Rattle.eden_fuse_nodes.specs.Laws.{OneNode, OnePath}
-use Rattle.eden_fuse_nodes.specs.Tables.{IsTable}
+use Rattle.eden_fuse_nodes.specs.Tables.{IsNodeTable}
 use Rattle.eden_fuse_nodes.specs.Tables.{Table as Nodes}
 use Rattle.eden_fuse_nodes.specs.Ways.{LiesAt}
 use Rattle.eden_fuse_shown.specs.Running.{Replying}
@@ -31,7 +31,7 @@ module _ (F : Tree) (p : Path) (f : Node → Node) where
 
 -- ---- what waits for one node is changed
 
-module _ (one : OneNode) (lone : OnePath) (nodes : Nodes) (whole : IsTable nodes) (node : ℕ) (p : Path) (lies : LiesAt nodes node p) where
+module _ (one : OneNode) (lone : OnePath) (nodes : Nodes) (whole : IsNodeTable nodes) (node : ℕ) (p : Path) (lies : LiesAt nodes node p) where
   -- a node at another path is another node
   other : (q : Path) (i : ℕ) → path_eq p q ≡ false → LiesAt nodes i q → (i == node) ≡ false
   other q i differs there = elim (eqb_tells i node) [
@@ -86,7 +86,7 @@ module _ {S : Type 0} (answers : Replying S) (tree : S → Tree) (one : OneNode)
 
   -- ---- what waits is stored
 
-  module _ (old : Showing S) (whole : IsTable old.nodes) (node : ℕ) (e : Extent) (waiting : extent_of old.waits node ≡ Some e) (p : Path) (lies : LiesAt old.nodes node p) where
+  module _ (old : Showing S) (whole : IsNodeTable old.nodes) (node : ℕ) (e : Extent) (waiting : extent_of old.waits node ≡ Some e) (p : Path) (lies : LiesAt old.nodes node p) where
     abbrev F : Tree
     F = tree old.mount
 
@@ -128,7 +128,7 @@ module _ {S : Type 0} (answers : Replying S) (tree : S → Tree) (one : OneNode)
     left_seen (Some errno) ws q same = ap (λ (w : Waits). seen_tree (edit F p f) old.nodes w q) same ∙ unended q
 
   module _ (follows : Follows answers tree) where
-    one_stored : (node : ℕ) (e : Extent) (old new : Showing S) (why : Option ℕ) (q : Path) → IsTable old.nodes → extent_of old.waits node ≡ Some e
+    one_stored : (node : ℕ) (e : Extent) (old new : Showing S) (why : Option ℕ) (q : Path) → IsNodeTable old.nodes → extent_of old.waits node ≡ Some e
         → Stores answers node e old why new → seen answers tree new q ≡ seen answers tree old q
     one_stored node e old new why q whole waiting r = elim (stored_made answers tree follows old.nodes node e old.mount new.mount why r.stored) [
       | inl none ↦
@@ -139,7 +139,7 @@ module _ {S : Type 0} (answers : Replying S) (tree : S → Tree) (one : OneNode)
           ∙ left_seen old whole node e waiting made.0 made.1 why new.waits q r.waits
     ]
 
-    settled_seen : (w : Option Extent) (node : ℕ) (old new : Showing S) (why : Option ℕ) (q : Path) → IsTable old.nodes → extent_of old.waits node ≡ w
+    settled_seen : (w : Option Extent) (node : ℕ) (old new : Showing S) (why : Option ℕ) (q : Path) → IsNodeTable old.nodes → extent_of old.waits node ≡ w
         → SettlesWith answers w node old why new → seen answers tree new q ≡ seen answers tree old q
     settled_seen None node old new why q whole waiting r = ap (λ (s : Showing S). seen answers tree s q) r.1
     settled_seen (Some e) node old new why q whole waiting r = one_stored node e old new why q whole waiting r

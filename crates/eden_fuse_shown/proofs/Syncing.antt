@@ -13,7 +13,7 @@ use Rattle.eden_model.specs.Trees.{Path, Tree}
 use Rattle.eden_fuse_nodes.specs.declared.way.Whereabouts.{Whereabouts}
 use Rattle.eden_fuse_nodes.specs.declared.way.Whereabouts.TheVariants.{At, TooFar, Nowhere}
 use Rattle.eden_fuse_nodes.specs.Laws.{OneNode, OnePath}
-use Rattle.eden_fuse_nodes.specs.Tables.{IsTable}
+use Rattle.eden_fuse_nodes.specs.Tables.{IsNodeTable}
 use Rattle.eden_fuse_nodes.specs.Ways.{LiesAt, path_in}
 use Rattle.eden_fuse_meaning.specs.declared.step.Outcome.{Outcome}
 use Rattle.eden_fuse_meaning.specs.declared.step.Outcome.TheVariants as outcome
@@ -125,7 +125,7 @@ module _ {S : Type 0} (answers : Replying S) (syncs : Syncing S) (tree : S → T
   went_on false old mid new t p there asked told fine = absurd (false≢true (sym fine ∙ told_none 5 t refl told))
 
   module _ (follows : Follows answers tree) where
-    on : (why : Option ℕ) (node : ℕ) (old mid new : Showing S) (t : Told) (p : Path) → IsTable old.nodes → Settles answers node old why mid
+    on : (why : Option ℕ) (node : ℕ) (old mid new : Showing S) (t : Told) (p : Path) → IsNodeTable old.nodes → Settles answers node old why mid
         → Unless answers why (Syncs syncs) mid t new → failed t ≡ false → LiesAt old.nodes node p → Lasts old p new
     on None node old mid new t p whole settles r fine lies =
         went_on r.went old mid new t p (is_there_once_stored answers tree one lone put stay long follows node old mid p whole settles lies) r.asked r.told fine

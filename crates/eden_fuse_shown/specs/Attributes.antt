@@ -17,11 +17,11 @@ use Rattle.eden_fuse_shown.specs.Waiting.{Extent, extent_of, seen_length}
 use Rattle.eden_fuse_shown.specs.Waiting.{Table as Waits}
 
 -- octal 100644, 100755, 120777, 40755
-abbrev pub mode_of : Kind → ℕ
-mode_of kinds.File = 33188
-mode_of kinds.Exec = 33261
-mode_of kinds.Link = 41471
-mode_of kinds.Dir = 16877
+abbrev pub mode_bits : Kind → ℕ
+mode_bits kinds.File = 33188
+mode_bits kinds.Exec = 33261
+mode_bits kinds.Link = 41471
+mode_bits kinds.Dir = 16877
 
 -- a length in blocks of 512 bytes, the last one counted whole
 abbrev pub blocks_of : ℕ → ℕ
@@ -36,7 +36,7 @@ attr_of owner inode at kind size = record {
   atime = at.content;
   mtime = at.content;
   ctime = at.entry;
-  mode = mode_of kind;
+  mode = mode_bits kind;
   nlink = 1;
   uid = owner.uid;
   gid = owner.gid;

@@ -74,27 +74,27 @@ entries_from offset = if nat_lt offset 2 then 2 else offset
 abbrev pub Table : Type 0
 Table = List (ℕ × Page)
 
-abbrev pub page_of : Table → ℕ → Option Page
-page_of t handle = lookup (is_at (nat_cmp handle)) t
+abbrev pub page_of_handle : Table → ℕ → Option Page
+page_of_handle t handle = lookup (is_at (nat_cmp handle)) t
 
 abbrev pub fresh : Page
 fresh = record { from = 0; before = None; rows = []; more = true }
 
-abbrev pub IsSame : Table → Table → Type 0
-IsSame old new = (i : ℕ) → page_of new i ≡ page_of old i
+abbrev pub IsSamePages : Table → Table → Type 0
+IsSamePages old new = (i : ℕ) → page_of_handle new i ≡ page_of_handle old i
 
 -- a directory was opened by a handle that none had
 pub record Opens (old new : Table) (handle : ℕ) : Type 0 where
-  pub free : page_of old handle ≡ None
-  pub pages : (i : ℕ) → page_of new i ≡ (if i == handle then Some fresh else page_of old i)
+  pub free : page_of_handle old handle ≡ None
+  pub pages : (i : ℕ) → page_of_handle new i ≡ (if i == handle then Some fresh else page_of_handle old i)
 
 -- .. closed
 abbrev pub Closes : Table → Table → ℕ → Type 0
-Closes old new handle = (i : ℕ) → page_of new i ≡ (if i == handle then None else page_of old i)
+Closes old new handle = (i : ℕ) → page_of_handle new i ≡ (if i == handle then None else page_of_handle old i)
 
 -- other entries of it were listed, if it is open
 abbrev pub Turns : Table → Table → ℕ → Page → Type 0
-Turns old new handle page = (i : ℕ) → page_of new i ≡ (if i == handle then option_map (λ p. page) (page_of old i) else page_of old i)
+Turns old new handle page = (i : ℕ) → page_of_handle new i ≡ (if i == handle then option_map (λ p. page) (page_of_handle old i) else page_of_handle old i)
 
 -- the entries that a page has from an offset on; at its end none, unless others come after them
 abbrev pub rows_at : Page → ℕ → Option (List Entry)

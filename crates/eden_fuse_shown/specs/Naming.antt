@@ -22,17 +22,17 @@ place_of_name node None = None
 place_of_name node (Some name) = place_at node name
 
 -- the place that a message names in the directory of its node
-abbrev pub named : ℕ → Asked → Option Place
-named node (asked.Lookup n) = place_at node n
-named node (asked.Symlink n t) = place_at node n
-named node (asked.MkNod s n) = place_at node n
-named node (asked.MkDir s n) = place_at node n
-named node (asked.Unlink n) = place_at node n
-named node (asked.RmDir n) = place_at node n
-named node (asked.Rename s n m) = place_at node n
-named node (asked.Rename2 s n m) = place_at node n
-named node (asked.Create s n) = place_at node n
-named node a = None
+abbrev pub named_place : ℕ → Asked → Option Place
+named_place node (asked.Lookup n) = place_at node n
+named_place node (asked.Symlink n t) = place_at node n
+named_place node (asked.MkNod s n) = place_at node n
+named_place node (asked.MkDir s n) = place_at node n
+named_place node (asked.Unlink n) = place_at node n
+named_place node (asked.RmDir n) = place_at node n
+named_place node (asked.Rename s n m) = place_at node n
+named_place node (asked.Rename2 s n m) = place_at node n
+named_place node (asked.Create s n) = place_at node n
+named_place node a = None
 
 -- the place that a rename moves to
 abbrev pub goal_of : Asked → Option Place
@@ -59,7 +59,7 @@ veiled_name (Some p) = if (p.parent == 1) && is_hidden p.name then Some p.name e
 
 -- a message names such a place
 abbrev pub is_reserved : ℕ → Asked → Bool
-is_reserved node a = is_veiled (named node a) || is_veiled (goal_of a)
+is_reserved node a = is_veiled (named_place node a) || is_veiled (goal_of a)
 
 -- the number of the error with which it is refused: there is none of that name (ENOENT, 2), or nothing may be done to it (EPERM, 1)
 abbrev pub denial : Asked → ℕ

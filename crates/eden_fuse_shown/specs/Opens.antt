@@ -11,8 +11,8 @@ Table = List (ℕ × ℕ)
 abbrev pub opens_of : Table → ℕ → Option ℕ
 opens_of t i = lookup (is_at (nat_cmp i)) t
 
-abbrev pub IsSame : Table → Table → Type 0
-IsSame old new = (i : ℕ) → opens_of new i ≡ opens_of old i
+abbrev pub IsSameOpens : Table → Table → Type 0
+IsSameOpens old new = (i : ℕ) → opens_of new i ≡ opens_of old i
 
 abbrev pub one_more : Option ℕ → Option ℕ
 one_more None = Some 1

@@ -17,7 +17,7 @@ use Rattle.eden_fuse_format.specs.declared.message.Header.{Header}
 use Rattle.eden_fuse_format.specs.declared.structs.FSyncIn.{FSyncIn}
 use Rattle.eden_fuse_format.specs.Asked.{Asked as asked}
 use Rattle.eden_fuse_nodes.specs.declared.place.Place.{Place}
-use Rattle.eden_fuse_nodes.specs.Tables.{IsTable, place_of, root}
+use Rattle.eden_fuse_nodes.specs.Tables.{IsNodeTable, place_of, root}
 use Rattle.eden_fuse_nodes.specs.Tables.{Table as Nodes}
 use Rattle.eden_fuse_nodes.specs.Ways.{LiesAt}
 use Rattle.eden_fuse_session.specs.Turns.{Told}
@@ -92,7 +92,7 @@ module _ {S : Type 0} (answers : Replying S) (tree : S → Tree) where
 
   -- a write that waits makes of what is seen what a mount's patch makes of its tree
   abbrev pub WaitsAsWritten : Type 0
-  WaitsAsWritten = (node offset : ℕ) (b : List ℕ) (old new : Showing S) (t : Told) (p q : Path) → IsTable old.nodes
+  WaitsAsWritten = (node offset : ℕ) (b : List ℕ) (old new : Showing S) (t : Told) (p q : Path) → IsNodeTable old.nodes
       → can_join (extent_of old.waits node) offset ≡ true → Joins answers node offset b old t new → LiesAt old.nodes node p
       → seen new q ≡ after (seen old) (ask.Patch p offset b) (say.Count (length b)) q
 
@@ -103,22 +103,22 @@ module _ {S : Type 0} (answers : Replying S) (tree : S → Tree) where
 
   -- .. and a write that waits with that makes of what is seen what a mount's patch makes of its tree
   abbrev pub BridgesAsWritten : Type 0
-  BridgesAsWritten = Follows → Tells → (node offset : ℕ) (b between : List ℕ) (old mid new : Showing S) (t : Told) (p q : Path) → IsTable old.nodes
+  BridgesAsWritten = Follows → Tells → (node offset : ℕ) (b between : List ℕ) (old mid new : Showing S) (t : Told) (p q : Path) → IsNodeTable old.nodes
       → LooksBetween answers node (gap_of old.waits node offset b) old (Some between) mid → JoinsOver answers node offset between b mid t new
       → LiesAt old.nodes node p → seen new q ≡ after (seen old) (ask.Patch p offset b) (say.Count (length b)) q
 
   -- to store what waits changes nothing that is seen, whether the mount does it, refuses it, or isn't heard
   abbrev pub StoresUnseen : Type 0
-  StoresUnseen = Follows → (node : ℕ) (old new : Showing S) (why : Option ℕ) (q : Path) → IsTable old.nodes
+  StoresUnseen = Follows → (node : ℕ) (old new : Showing S) (why : Option ℕ) (q : Path) → IsNodeTable old.nodes
       → Settles answers node old why new → seen new q ≡ seen old q
 
   -- once nothing waits for a node, the mount has what was seen at its path
   abbrev pub IsThereOnceStored : Type 0
-  IsThereOnceStored = Follows → (node : ℕ) (old new : Showing S) (p : Path) → IsTable old.nodes → Settles answers node old None new
+  IsThereOnceStored = Follows → (node : ℕ) (old new : Showing S) (p : Path) → IsNodeTable old.nodes → Settles answers node old None new
       → LiesAt old.nodes node p → tree new.mount p ≡ seen old p
 
   -- where an `fsync` of a file was told no error, the mount had what was seen at its path, and waited for the disk after that
   abbrev pub IsSyncedAsSeen : Syncing S → Type 0
-  IsSyncedAsSeen syncs = Follows → (h : Header) (s : FSyncIn) (old new : Showing S) (t : Told) (p : Path) → IsTable old.nodes
+  IsSyncedAsSeen syncs = Follows → (h : Header) (s : FSyncIn) (old new : Showing S) (t : Told) (p : Path) → IsNodeTable old.nodes
       → Shows answers syncs old h (asked.FSync s) t new → failed t ≡ false → LiesAt old.nodes h.nodeid p
       → (mid : S) × (tree mid p ≡ seen old p) × syncs mid true new.mount

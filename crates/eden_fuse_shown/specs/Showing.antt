@@ -16,9 +16,9 @@ use Rattle.eden_fuse_format.specs.Asked.{Asked, forget_one}
 use Rattle.eden_fuse_format.specs.Asked.{Asked as asked}
 use Rattle.eden_fuse_nodes.specs.declared.place.Place.{Place}
 use Rattle.eden_fuse_nodes.specs.declared.way.Whereabouts.{Whereabouts}
-use Rattle.eden_fuse_nodes.specs.Tables.{Learns, Forgets, Removes, Renames, Scatters, place_of}
+use Rattle.eden_fuse_nodes.specs.Tables.{Learns, Forgets, RemovesNode, Renames, Scatters, place_of}
 use Rattle.eden_fuse_nodes.specs.Tables.{Table as Nodes}
-use Rattle.eden_fuse_nodes.specs.Tables.{IsSame as IsSameNodes}
+use Rattle.eden_fuse_nodes.specs.Tables.{IsSameNodes}
 use Rattle.eden_fuse_nodes.specs.Ways.{IsWhere, path_in}
 use Rattle.eden_fuse_meaning.specs.declared.step.Outcome.{Outcome}
 use Rattle.eden_fuse_meaning.specs.declared.step.Outcome.TheVariants as outcome
@@ -38,14 +38,14 @@ use Rattle.eden_fuse_shown.specs.declared.sorts.Sort.{Sort}
 use Rattle.eden_fuse_shown.specs.declared.sorts.Sort.TheVariants as sort
 use Rattle.eden_fuse_shown.specs.declared.times.Moments.{Moments}
 use Rattle.eden_fuse_shown.specs.Attributes.{entry_of, attributes_of, open_file, open_directory, started}
-use Rattle.eden_fuse_shown.specs.Listing.{Entry, with_rows, dots_after, entries_from, page_of, kept_at, last_at, Closes, Turns}
+use Rattle.eden_fuse_shown.specs.Listing.{Entry, with_rows, dots_after, entries_from, page_of_handle, kept_at, last_at, Closes, Turns}
 use Rattle.eden_fuse_shown.specs.Listing.{Opens as OpensPage}
 use Rattle.eden_fuse_shown.specs.Listing.{Table as Pages}
-use Rattle.eden_fuse_shown.specs.Listing.{IsSame as IsSamePages}
-use Rattle.eden_fuse_shown.specs.Naming.{named, goal_of, other_node, veiled_name, is_reserved, denial, last_name, IsHeld}
+use Rattle.eden_fuse_shown.specs.Listing.{IsSamePages}
+use Rattle.eden_fuse_shown.specs.Naming.{named_place, goal_of, other_node, veiled_name, is_reserved, denial, last_name, IsHeld}
 use Rattle.eden_fuse_shown.specs.Opens.{Raises, Lowers, opens_of, is_last}
 use Rattle.eden_fuse_shown.specs.Opens.{Table as Opens}
-use Rattle.eden_fuse_shown.specs.Opens.{IsSame as IsSameOpens}
+use Rattle.eden_fuse_shown.specs.Opens.{IsSameOpens}
 use Rattle.eden_fuse_shown.specs.Reading.{Gathers}
 use Rattle.eden_fuse_shown.specs.Running.{Replying, Syncing, Comes}
 use Rattle.eden_fuse_shown.specs.Waiting.{Extent, Adds, Bridges, Ends, extent_of, seen_part, gap_of, may_wait}
@@ -104,19 +104,19 @@ EntersOpen (Some p) show old new opens opens' t =
 
 abbrev pub Drops : Option Place → Nodes → Nodes → Type 0
 Drops None old new = IsSameNodes old new
-Drops (Some p) old new = Removes old new p
+Drops (Some p) old new = RemovesNode old new p
 
 -- without memory what stood at either place stands nowhere, and is to be looked up anew
-abbrev pub Passes : Option Place → Option Place → Nodes → Nodes → Type 0
-Passes (Some p) (Some q) old new = Renames old new p q ⊎ Scatters old new p q
-Passes p q old new = IsSameNodes old new
+abbrev pub MovesNode : Option Place → Option Place → Nodes → Nodes → Type 0
+MovesNode (Some p) (Some q) old new = Renames old new p q ⊎ Scatters old new p q
+MovesNode p q old new = IsSameNodes old new
 
 -- what was asked was done
 abbrev pub Changes : ℕ → Asked → Nodes → Nodes → Type 0
-Changes node (asked.Unlink n) old new = Drops (named node (asked.Unlink n)) old new
-Changes node (asked.RmDir n) old new = Drops (named node (asked.RmDir n)) old new
-Changes node (asked.Rename s n m) old new = Passes (named node (asked.Rename s n m)) (goal_of (asked.Rename s n m)) old new
-Changes node (asked.Rename2 s n m) old new = Passes (named node (asked.Rename2 s n m)) (goal_of (asked.Rename2 s n m)) old new
+Changes node (asked.Unlink n) old new = Drops (named_place node (asked.Unlink n)) old new
+Changes node (asked.RmDir n) old new = Drops (named_place node (asked.RmDir n)) old new
+Changes node (asked.Rename s n m) old new = MovesNode (named_place node (asked.Rename s n m)) (goal_of (asked.Rename s n m)) old new
+Changes node (asked.Rename2 s n m) old new = MovesNode (named_place node (asked.Rename2 s n m)) (goal_of (asked.Rename2 s n m)) old new
 Changes node a old new = IsSameNodes old new
 
 -- the first rows of a batch were forgotten, so many
@@ -152,14 +152,14 @@ abbrev pub rows_told : ℕ → ReadIn → List Entry → Told
 rows_told node s rows = Some (0, with_rows node s.size s.offset (dots_after s.offset ++ rows) [])
 
 -- entries were listed after that name, and the first of them are told; or there is no memory for them
-abbrev pub Lists : ℕ → ReadIn → Option Name → List Entry → Bool → Pages → Pages → Told → Type 0
-Lists node s last rows more old new t =
+abbrev pub ListsRows : ℕ → ReadIn → Option Name → List Entry → Bool → Pages → Pages → Told → Type 0
+ListsRows node s last rows more old new t =
     (Turns old new s.fh (record { from = entries_from s.offset; before = last; rows = rows; more = more })
     × (t ≡ rows_told node s rows))
     ⊎ (IsSamePages old new × (t ≡ refuse 12))
 
 abbrev pub IsListed : ℕ → Asked → Option Name → List Entry → Bool → Pages → Pages → Told → Type 0
-IsListed node (asked.ReadDir s) last rows more old new t = Lists node s last rows more old new t
+IsListed node (asked.ReadDir s) last rows more old new t = ListsRows node s last rows more old new t
 IsListed node a last rows more old new t = IsSamePages old new × (t ≡ refuse 5)
 
 -- .. of a mount that waited for the disk; where that failed, EIO (5)
@@ -212,13 +212,13 @@ module _ (m : Manner) (node : ℕ) (a : Asked) (last : Option Name) (nodes nodes
   Concludes (Ok outcome.Done) t = Changes node a nodes nodes' × Shuts a pages pages' × IsSameOpens opens opens' × (t ≡ say answer.Done)
   Concludes (Ok outcome.Absent) t = Stay × (t ≡ say (answer.NoEntry m.keep))
   Concludes (Ok (outcome.Found kind size inode)) t =
-      Enters (named node a) (λ id at. answer.Entry (entry_of m waits id inode at kind size)) nodes nodes' t
+      Enters (named_place node a) (λ id at. answer.Entry (entry_of m waits id inode at kind size)) nodes nodes' t
       × IsSamePages pages pages' × IsSameOpens opens opens'
   Concludes (Ok (outcome.Attributes kind size inode)) t =
       Stay × ((at : Moments) × (t ≡ say (answer.Attributes (attributes_of m waits node inode at kind size))))
   Concludes (Ok outcome.Opened) t = IsSameNodes nodes nodes' × IsOpened node a pages pages' opens opens' t
   Concludes (Ok (outcome.Made kind size inode)) t =
-      EntersOpen (named node a) (λ id at. answer.Created (entry_of m waits id inode at kind size) (open_file (flags_of a))) nodes nodes' opens opens' t
+      EntersOpen (named_place node a) (λ id at. answer.Created (entry_of m waits id inode at kind size) (open_file (flags_of a))) nodes nodes' opens opens' t
       × IsSamePages pages pages'
   Concludes (Ok (outcome.Bytes bytes)) t = Stay × ((t ≡ give (seen_bytes a (extent_of waits node) bytes)) ⊎ (t ≡ refuse 12))
   Concludes (Ok (outcome.Written n)) t = Stay × (t ≡ count n)
@@ -305,10 +305,10 @@ module _ {S : Type 0} (answers : Replying S) where
   -- what its last listing has from the offset on is told, and nothing is asked; else it is read on
   abbrev pub ReadsKept : Option (List Entry) → ℕ → Asked → ReadIn → Showing S → Told → Showing S → Type 0
   ReadsKept (Some rows) node a s old t new = (new ≡ old) × ((t ≡ rows_told node s rows) ⊎ (t ≡ refuse 12))
-  ReadsKept None node a s old t new = RunsFrom node a (last_at (page_of old.pages s.fh) s.offset) old t new
+  ReadsKept None node a s old t new = RunsFrom node a (last_at (page_of_handle old.pages s.fh) s.offset) old t new
 
-  abbrev pub Reads : ℕ → Asked → ReadIn → Showing S → Told → Showing S → Type 0
-  Reads node a s old t new = Starves old t new ⊎ ReadsKept (kept_at (page_of old.pages s.fh) s.offset) node a s old t new
+  abbrev pub ReadsDirectory : ℕ → Asked → ReadIn → Showing S → Told → Showing S → Type 0
+  ReadsDirectory node a s old t new = Starves old t new ⊎ ReadsKept (kept_at (page_of_handle old.pages s.fh) s.offset) node a s old t new
 
   -- nodes alone are forgotten, and nothing is answered
   pub record Loses (old : Showing S) (t : Told) (new : Showing S) (Lost : Type 0) : Type 0 where
@@ -415,8 +415,8 @@ module _ {S : Type 0} (answers : Replying S) where
   abbrev pub WritesApart : ℕ → ℕ → Asked → Showing S → Told → Showing S → Type 0
   WritesApart node offset a old t new = BridgesElse node offset (data_of a) (Once (Some node) (WritesAnew node offset a)) old t new
 
-  abbrev pub Writes : ℕ → ℕ → Asked → Showing S → Told → Showing S → Type 0
-  Writes node offset a old t new = WaitsElse node offset (data_of a) (WritesApart node offset a) old t new
+  abbrev pub WritesFile : ℕ → ℕ → Asked → Showing S → Told → Showing S → Type 0
+  WritesFile node offset a old t new = WaitsElse node offset (data_of a) (WritesApart node offset a) old t new
 
   -- ---- what is removed or replaced while it is open
 
@@ -426,7 +426,7 @@ module _ {S : Type 0} (answers : Replying S) where
   RemovesBy (Some id) node a old t new = Runs node (hide id (last_name a)) None old t new
 
   abbrev pub RemovesHeld : ℕ → Asked → Showing S → Told → Showing S → Type 0
-  RemovesHeld node a old t new = (held : Option ℕ) × IsHeld old.nodes old.opens (named node a) held × RemovesBy held node a old t new
+  RemovesHeld node a old t new = (held : Option ℕ) × IsHeld old.nodes old.opens (named_place node a) held × RemovesBy held node a old t new
 
   -- after a rename that failed the other gets its name back
   abbrev pub Restores : ℕ → ℕ → Name → Told → Showing S → Showing S → Type 0
@@ -543,7 +543,7 @@ module _ {S : Type 0} (answers : Replying S) (syncs : Syncing S) where
   abbrev pub Serves : Sort → ℕ → Asked → Showing S → Told → Showing S → Type 0
   Serves sort.Look node a old t new = Once answers (Some node) (Runs answers node a None) old t new
   Serves sort.Sync node a old t new = Once answers (Some node) (Syncs syncs) old t new
-  Serves (sort.Write offset) node a old t new = Writes answers node offset a old t new
+  Serves (sort.Write offset) node a old t new = WritesFile answers node offset a old t new
   Serves sort.Remove node a old t new = RemovesHeld answers node a old t new
   Serves (sort.Replace dir) node a old t new = ReplacesHeld answers dir node a old t new
   Serves sort.Start node a old t new = Starts answers node a old t new
@@ -560,7 +560,7 @@ module _ {S : Type 0} (answers : Replying S) (syncs : Syncing S) where
   abbrev pub ShowsBy : Sort → Showing S → ℕ → Asked → Told → Showing S → Type 0
   ShowsBy (sort.One n) old node a t new = Loses answers old t new (Forgets old.nodes new.nodes node n)
   ShowsBy sort.Batch old node a t new = Loses answers old t new (ForgetsRows (length (batch_of a) / 16) (batch_of a) old.nodes new.nodes)
-  ShowsBy (sort.On s) old node a t new = Reads answers node a s old t new
+  ShowsBy (sort.On s) old node a t new = ReadsDirectory answers node a s old t new
   ShowsBy sort.Close old node a t new = ClosesFile answers node old t new
   ShowsBy s old node a t new = Takes s node a old t new
 

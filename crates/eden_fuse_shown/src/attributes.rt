@@ -6,7 +6,7 @@ ghost use Rattle.eden_fuse_shown.specs.Attributes.{
   blocks_of,
   entry_of,
   kept_for,
-  mode_of,
+  mode_bits,
   open_directory,
   open_file,
   seen_attr,
@@ -31,7 +31,7 @@ const WANTED: u32 = 12_845_089;
 const ACCESS_MODE: u32 = 3;
 
 fn mode_of(kind: Kind) -> u32
-    ensures { result ≡ mode_of kind }
+    ensures { result ≡ mode_bits kind }
 {
     match kind {
         Kind::File => 0o100644,

@@ -2,11 +2,11 @@
 ghost use Rattle.std.specs.Prelude.{◌≡◌, ◌⊎◌, ◌/◌, None, Some, IfErr, IfOk, length};
 ghost use Rattle.eden_fuse_format.specs.Asked.{seen};
 ghost use Rattle.eden_fuse_nodes.specs.declared.place.Place.{Place};
-ghost use Rattle.eden_fuse_nodes.specs.Tables.{IsSame, Learns};
-ghost use Rattle.eden_fuse_shown.specs.Naming.{goal_of, named};
+ghost use Rattle.eden_fuse_nodes.specs.Tables.{IsSameNodes, Learns};
+ghost use Rattle.eden_fuse_shown.specs.Naming.{goal_of, named_place};
 ghost use Rattle.eden_fuse_shown.specs.Opens.{Raises};
-ghost use Rattle.eden_fuse_shown.specs.Opens.{IsSame as AreSame};
-ghost use Rattle.eden_fuse_shown.specs.Showing.{Changes, Drops, ForgetsRows, Passes};
+ghost use Rattle.eden_fuse_shown.specs.Opens.{IsSameOpens};
+ghost use Rattle.eden_fuse_shown.specs.Showing.{Changes, Drops, ForgetsRows, MovesNode};
 
 use crate::opens::Opens;
 use eden_fuse_format::{Operation, forget_at};
@@ -20,7 +20,7 @@ const ENOMEM: u32 = 12;
 /// The node at the place is told of once more; or the number of the error: `EIO` where there is no place, and `ENOMEM`.
 pub(crate) fn enter(alloc: Global, nodes: &mut Nodes, place: Option<Place>) -> Result<u64, u32>
     ensures ok { IfOk result (λ id. (p : Place) × (place ≡ Some p) × Learns nodes.old nodes.new id p) }
-    ensures err { IfErr result (λ e. IsSame nodes.old nodes.new
+    ensures err { IfErr result (λ e. IsSameNodes nodes.old nodes.new
         × (((place ≡ None) × (e ≡ 5)) ⊎ ((p : Place) × (place ≡ Some p) × (e ≡ 12)))) }
 {
     match place {
@@ -41,7 +41,7 @@ pub(crate) fn enter_open(
 ) -> Result<u64, u32>
     ensures ok { IfOk result (λ id. (p : Place) × (place ≡ Some p) × Learns nodes.old nodes.new id p
         × Raises opens.old opens.new id) }
-    ensures err { IfErr result (λ e. IsSame nodes.old nodes.new × AreSame opens.old opens.new
+    ensures err { IfErr result (λ e. IsSameNodes nodes.old nodes.new × IsSameOpens opens.old opens.new
         × (((place ≡ None) × (e ≡ 5)) ⊎ ((p : Place) × (place ≡ Some p) × (e ≡ 12)))) }
 {
     nodes.keeps();
@@ -65,7 +65,7 @@ fn leave(nodes: &mut Nodes, place: Option<Place>)
 
 // The node at the first place stands at the second.
 fn pass(alloc: Global, nodes: &mut Nodes, from: Option<Place>, to: Option<Place>)
-    ensures { Passes from to nodes.old nodes.new }
+    ensures { MovesNode from to nodes.old nodes.new }
 {
     match from {
         None => {}
@@ -88,7 +88,7 @@ pub(crate) fn change(
     place: Option<Place>,
     goal: Option<Place>,
 )
-    requires place { place ≡ named node (seen operation.now) }
+    requires place { place ≡ named_place node (seen operation.now) }
     requires goal { goal ≡ goal_of (seen operation.now) }
     ensures { Changes node (seen operation.now) nodes.old nodes.new }
 {

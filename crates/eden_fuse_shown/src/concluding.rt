@@ -3,18 +3,18 @@ ghost use Rattle.std.specs.Prelude.{◌≡◌, ◌⊎◌, ℕ, IfOk, List, true}
 ghost use Rattle.eden_fuse_format.specs.declared.answer.Answer.TheVariants as answer;
 ghost use Rattle.eden_fuse_format.specs.Answers.{IsBrief};
 ghost use Rattle.eden_fuse_format.specs.Asked.{seen};
-ghost use Rattle.eden_fuse_nodes.specs.Tables.{IsSame};
+ghost use Rattle.eden_fuse_nodes.specs.Tables.{IsSameNodes};
 ghost use Rattle.eden_fuse_session.specs.Turns.{IsBriefly, told};
 ghost use Rattle.eden_fuse_shown.specs.Attributes.{entry_of, open_file};
-ghost use Rattle.eden_fuse_shown.specs.Naming.{goal_of, named};
-ghost use Rattle.eden_fuse_shown.specs.Opens.{IsSame as AreSame};
+ghost use Rattle.eden_fuse_shown.specs.Naming.{goal_of, named_place};
+ghost use Rattle.eden_fuse_shown.specs.Opens.{IsSameOpens};
 ghost use Rattle.eden_fuse_shown.specs.Showing.{
   Concludes,
   Enters,
   EntersOpen,
   IsListed,
   IsOpened,
-  Lists,
+  ListsRows,
   Shuts,
   count,
   errno_of,
@@ -311,7 +311,7 @@ fn list_from(
     more: bool,
     room: &mut Vec<u8>,
 ) -> Said
-    ensures listed { Lists node read.now last rows more pages.old pages.new (told result room.new.items) }
+    ensures listed { ListsRows node read.now last rows more pages.old pages.new (told result room.new.items) }
     ensures brief { IsBriefly result room.new.items }
 {
     if !lay_out(node, read, rows.as_slice(), room) {
@@ -364,7 +364,7 @@ pub(crate) fn conclude(
     end: Result<Outcome, Unheard>,
     room: &mut Vec<u8>,
 ) -> Said
-    requires place { place ≡ named node (seen operation.now) }
+    requires place { place ≡ named_place node (seen operation.now) }
     requires goal { goal ≡ goal_of (seen operation.now) }
     ensures concludes { Concludes manner node (seen operation.now) last nodes.old nodes.new pages.old pages.new
         opens.old opens.new waits.now end (told result room.new.items) }

@@ -8,7 +8,7 @@ ghost use Rattle.eden_fuse_shown.specs.Naming.{
   goal_of,
   is_reserved,
   is_veiled,
-  named,
+  named_place,
   other_node,
   place_at,
   place_of_name,
@@ -36,7 +36,7 @@ fn place_at(alloc: Global, node: u64, name: &[u8]) -> Result<Option<Place>, Allo
 
 /// The name at which a message finds, makes, moves or removes something in the directory of its node.
 fn name_of<'a>(operation: &Operation<'a>) -> Option<&'a [u8]>
-    ensures { (node : ℕ) → named node (seen operation.now) ≡ place_of_name node (option_map (λ n. n.now) result) }
+    ensures { (node : ℕ) → named_place node (seen operation.now) ≡ place_of_name node (option_map (λ n. n.now) result) }
 {
     match operation {
         Operation::Lookup(name)
@@ -58,7 +58,7 @@ pub(crate) fn named(
     node: u64,
     operation: &Operation<'_>,
 ) -> Result<Option<Place>, AllocError>
-    ensures { IfOk result (λ p. p ≡ named node (seen operation.now)) }
+    ensures { IfOk result (λ p. p ≡ named_place node (seen operation.now)) }
 {
     match name_of(operation) {
         None => Ok(None),
@@ -85,7 +85,7 @@ fn is_veiled(node: u64, name: &[u8]) -> bool
 }
 
 fn names_veiled(node: u64, operation: &Operation<'_>) -> bool
-    ensures { result ≡ is_veiled (named node (seen operation.now)) }
+    ensures { result ≡ is_veiled (named_place node (seen operation.now)) }
 {
     match name_of(operation) {
         None => false,
@@ -156,7 +156,7 @@ pub(crate) fn held(
     node: u64,
     operation: &Operation<'_>,
 ) -> Result<Option<u64>, AllocError>
-    ensures { IfOk result (λ held. IsHeld nodes.now opens.now (named node (seen operation.now)) held) }
+    ensures { IfOk result (λ held. IsHeld nodes.now opens.now (named_place node (seen operation.now)) held) }
 {
     let place = named(alloc, node, operation)?;
     Ok(held_at(nodes, opens, &place))

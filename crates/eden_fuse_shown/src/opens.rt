@@ -1,7 +1,7 @@
 // Open files.
 ghost use Rattle.std.specs.Prelude.{◌≡◌, ℕ, None, OnErr, OnOk};
 ghost use Rattle.std.specs.Option.{is_some};
-ghost use Rattle.eden_fuse_shown.specs.Opens.{IsSame, Lowers, Raises, is_last, opens_of};
+ghost use Rattle.eden_fuse_shown.specs.Opens.{IsSameOpens, Lowers, Raises, is_last, opens_of};
 
 use std::alloc::{AllocError, Global};
 use std::collections::BTreeMap;
@@ -34,7 +34,7 @@ impl Opens {
     /// A node is opened once more. An error changes nothing.
     pub fn raise(&mut self, node: u64) -> Result<(), AllocError>
         ensures ok { OnOk result (Raises self.old self.new node) }
-        ensures err { OnErr result (IsSame self.old self.new) }
+        ensures err { OnErr result (IsSameOpens self.old self.new) }
     {
         if let Some(count) = self.counts.get_mut(&node) {
             if *count == u64::MAX {

@@ -3,13 +3,13 @@ ghost use Rattle.std.specs.Prelude.{◌≡◌, ℕ, None, IfOk, OnErr};
 ghost use Rattle.std.specs.Prelude.{option_map};
 ghost use Rattle.eden_fuse_shown.specs.Listing.{
   Closes,
-  IsSame,
+  IsSamePages,
   Opens,
   Turns,
   kept_at,
   last_at,
   name_at,
-  page_of,
+  page_of_handle,
   rows_at,
 };
 
@@ -41,14 +41,14 @@ pub struct Pages {
 
 impl Model for Pages {
     ghost use Rattle.std.specs.Prelude.{◌≡◌, ◌<◌, ℕ, Some};
-    ghost use Rattle.eden_fuse_shown.specs.Listing.{Table, page_of};
+    ghost use Rattle.eden_fuse_shown.specs.Listing.{Table, page_of_handle};
     ghost use Rattle.eden_fuse_shown.specs.declared.pages.Page.{Page};
 
     ghost Value = { Table };
 
     ghost view = { λ p. p.pages.entries };
 
-    ghost invariant = { λ p. (i : ℕ) (page : Page) → page_of p.pages.entries i ≡ Some page → i < p.next };
+    ghost invariant = { λ p. (i : ℕ) (page : Page) → page_of_handle p.pages.entries i ≡ Some page → i < p.next };
 }
 
 // The entries that a page has from the offset on.
@@ -109,7 +109,7 @@ fn put(pages: &mut BTreeMap<u64, Page>, handle: u64, page: Page)
 impl Pages {
     /// None is open.
     pub fn new(alloc: Global) -> Pages
-        ensures { (i : ℕ) → page_of result i ≡ None }
+        ensures { (i : ℕ) → page_of_handle result i ≡ None }
     {
         Pages {
             pages: BTreeMap::new(alloc),
@@ -120,7 +120,7 @@ impl Pages {
     /// Opens a directory, by a handle that no other has. Without memory nothing changes.
     pub fn open(&mut self, alloc: Global) -> Result<u64, AllocError>
         ensures ok { IfOk result (λ handle. Opens self.old self.new handle) }
-        ensures err { OnErr result (IsSame self.old self.new) }
+        ensures err { OnErr result (IsSamePages self.old self.new) }
     {
         let handle = self.next;
         if handle == u64::MAX {
@@ -150,7 +150,7 @@ impl Pages {
 
     /// The entries that the last listing of an open directory has from the offset on, or none where it is to be listed.
     pub fn kept(&self, handle: u64, offset: u64) -> Option<&[(Name, Kind)]>
-        ensures { option_map (λ rows. rows.now) result ≡ kept_at (page_of self.now handle) offset }
+        ensures { option_map (λ rows. rows.now) result ≡ kept_at (page_of_handle self.now handle) offset }
     {
         if offset <= DOTS {
             return None;
@@ -166,7 +166,7 @@ impl Pages {
         handle: u64,
         offset: u64,
     ) -> Result<Option<Option<Name>>, AllocError>
-        ensures { IfOk result (λ last. last ≡ last_at (page_of self.now handle) offset) }
+        ensures { IfOk result (λ last. last ≡ last_at (page_of_handle self.now handle) offset) }
     {
         if offset <= DOTS {
             return Ok(Some(None));

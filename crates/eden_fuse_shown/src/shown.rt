@@ -26,7 +26,7 @@ ghost use Rattle.eden_fuse_shown.specs.declared.mount.Unheard.{Unheard};
 ghost use Rattle.eden_fuse_shown.specs.Beginning.{IsBlank};
 ghost use Rattle.eden_fuse_shown.specs.Looking.{ChangesNothing};
 ghost use Rattle.eden_fuse_shown.specs.Opens.{is_last, opens_of};
-ghost use Rattle.eden_fuse_shown.specs.Naming.{goal_of, last_name, named, veiled_name};
+ghost use Rattle.eden_fuse_shown.specs.Naming.{goal_of, last_name, named_place, veiled_name};
 ghost use Rattle.eden_fuse_shown.specs.Showing.{
   BridgesIf,
   Clears,
@@ -42,7 +42,7 @@ ghost use Rattle.eden_fuse_shown.specs.Showing.{
   LetsGo,
   LooksBetween,
   Once,
-  Reads,
+  ReadsDirectory,
   RemovesHeld,
   ReplacesBy,
   ReplacesHeld,
@@ -54,7 +54,7 @@ ghost use Rattle.eden_fuse_shown.specs.Showing.{
   StoresAll,
   Syncs,
   Takes,
-  Writes,
+  WritesFile,
   WritesAnew,
   WritesApart,
   count,
@@ -177,7 +177,7 @@ impl<M: Mount + Drop, K: Clock + Drop> Shown<M, K> {
         last: Option<Name>,
         room: &mut Vec<u8>,
     ) -> Said
-        requires place { place ≡ named node (seen operation.now) }
+        requires place { place ≡ named_place node (seen operation.now) }
         requires goal { goal ≡ goal_of (seen operation.now) }
         ensures runs { Runs M.answers node (seen operation.now) last self.old (told result room.new.items) self.new }
         ensures brief { IsBriefly result room.new.items }
@@ -381,7 +381,7 @@ impl<M: Mount + Drop, K: Clock + Drop> Shown<M, K> {
         operation: &Operation<'_>,
         room: &mut Vec<u8>,
     ) -> Said
-        ensures writes { Writes M.answers node offset (seen operation.now) self.old
+        ensures writes { WritesFile M.answers node offset (seen operation.now) self.old
             (told result room.new.items) self.new }
         ensures brief { IsBriefly result room.new.items }
     {
@@ -431,7 +431,8 @@ impl<M: Mount + Drop, K: Clock + Drop> Shown<M, K> {
         read: ReadIn,
         room: &mut Vec<u8>,
     ) -> Said
-        ensures runs { Reads M.answers node (seen operation.now) read self.old (told result room.new.items) self.new }
+        ensures runs { ReadsDirectory M.answers node (seen operation.now) read self.old (told result room.new.items)
+            self.new }
         ensures brief { IsBriefly result room.new.items }
     {
         if let Some(rows) = self.pages.kept(read.fh, read.offset) {

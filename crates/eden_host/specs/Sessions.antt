@@ -13,18 +13,18 @@ use Rattle.eden_host.specs.declared.fault.HostFault.TheVariants as host
 use Rattle.eden_host.specs.Guests.{GuestAnswers}
 
 -- the fault of listening is told before that of a session, and that of a session before those of later ones
-abbrev pub first_fault : Result ⊤ SessionFault → Result ⊤ HostFault → Result ⊤ HostFault
-first_fault said (Err host.Listen) = Err host.Listen
-first_fault (Err fault) (Err (host.Session later)) = Err (host.Session fault)
-first_fault (Ok _) (Err (host.Session later)) = Err (host.Session later)
-first_fault (Err fault) (Ok _) = Err (host.Session fault)
-first_fault (Ok _) (Ok _) = Ok tt
+abbrev pub first_host_fault : Result ⊤ SessionFault → Result ⊤ HostFault → Result ⊤ HostFault
+first_host_fault said (Err host.Listen) = Err host.Listen
+first_host_fault (Err fault) (Err (host.Session later)) = Err (host.Session fault)
+first_host_fault (Ok _) (Err (host.Session later)) = Err (host.Session later)
+first_host_fault (Err fault) (Ok _) = Err (host.Session fault)
+first_host_fault (Ok _) (Ok _) = Ok tt
 
 -- what a pass's session and the passes after it come to: where it had no session, what those come to
 abbrev pub gathered : Option (Result ⊤ SessionFault) → Option (Result ⊤ HostFault) → Option (Result ⊤ HostFault)
 gathered None later = later
-gathered (Some said) None = Some (first_fault said (Ok tt))
-gathered (Some said) (Some later) = Some (first_fault said later)
+gathered (Some said) None = Some (first_host_fault said (Ok tt))
+gathered (Some said) (Some later) = Some (first_host_fault said later)
 
 -- what is told of all passes: where none had a session, want of memory
 abbrev pub outcome_of : Option (Result ⊤ HostFault) → Result ⊤ HostFault

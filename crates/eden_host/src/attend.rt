@@ -3,7 +3,7 @@ ghost use Rattle.std.specs.Prelude.{◌≡◌, ◌≤◌, IfOk, IfErr, vec_capac
 ghost use Rattle.std.specs.Thread.{IsSync};
 ghost use denote.Param.Send.{IsSend};
 ghost use Rattle.eden_host.specs.Guests.{HasLearntNothing, HaveLearntNothing};
-ghost use Rattle.eden_host.specs.Sessions.{AreAttended, AreHosted, IsSeated, first_fault, gathered, outcome_of};
+ghost use Rattle.eden_host.specs.Sessions.{AreAttended, AreHosted, IsSeated, first_host_fault, gathered, outcome_of};
 
 use crate::accepts::Accepts;
 use crate::fault::HostFault;
@@ -121,7 +121,7 @@ fn first_fault(
     said: Result<(), SessionFault>,
     later: Result<(), HostFault>,
 ) -> Result<(), HostFault>
-    ensures { result ≡ first_fault said later }
+    ensures { result ≡ first_host_fault said later }
 {
     match (said, later) {
         (_, Err(HostFault::Listen)) => Err(HostFault::Listen),

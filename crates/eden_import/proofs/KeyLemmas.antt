@@ -9,7 +9,7 @@ use Rattle.std.proofs.lemmas.Map.Made.{is_member-filter}
 use Rattle.eden_model.specs.declared.id.Key.{Key}
 use Rattle.eden_model.specs.Keys.{same_key}
 use Rattle.eden_model.proofs.CallerLemmas.{same_key-Decides}
-use Rattle.eden_import.specs.Keys.{has_key, without}
+use Rattle.eden_import.specs.Keys.{has_key, without_key}
 
 pub same_key-equiv : IsEquivalence same_key
 same_key-equiv = decided same_key same_key-Decides
@@ -22,23 +22,23 @@ same_key-refl k = same_key-equiv.refl k
 pub has_key-append : (k : Key) (xs ys : List Key) → has_key k (xs ++ ys) ≡ (has_key k xs || has_key k ys)
 has_key-append k xs ys = list_any-append (same_key k) xs ys
 
-pub has_key-without : (j k : Key) (xs : List Key) → has_key j (without k xs) ≡ (has_key j xs && not (same_key k j))
+pub has_key-without : (j k : Key) (xs : List Key) → has_key j (without_key k xs) ≡ (has_key j xs && not (same_key k j))
 has_key-without j k xs = is_member-filter same_key-equiv (λ x. not (same_key k x)) j (λ x e. ap (λ y. not (same_key k y)) ((same_key-Decides j x).0 e)) xs
 
 -- a key that isn't there needs no taking out
-pub without_absent : (k : Key) (xs : List Key) → has_key k xs ≡ false → without k xs ≡ xs
+pub without_absent : (k : Key) (xs : List Key) → has_key k xs ≡ false → without_key k xs ≡ xs
 without_absent k [] h = refl
 without_absent k (x ∷ xs) h =
     let parts = or_parts (same_key k x) (has_key k xs) h in
-    ap (λ b. cond (not b) (x ∷ without k xs) (without k xs)) parts.0 ∙ ap (λ l. x ∷ l) (without_absent k xs parts.1)
+    ap (λ b. cond (not b) (x ∷ without_key k xs) (without_key k xs)) parts.0 ∙ ap (λ l. x ∷ l) (without_absent k xs parts.1)
 
 length-cond-le : (b : Bool) (x : Key) (ys : List Key) (n : ℕ) → length ys ≤ n → length (cond b (x ∷ ys) ys) ≤ n + 1
 length-cond-le true x ys n h = omega arith
 length-cond-le false x ys n h = omega arith
 
-pub length-without-le : (k : Key) (xs : List Key) → length (without k xs) ≤ length xs
+pub length-without-le : (k : Key) (xs : List Key) → length (without_key k xs) ≤ length xs
 length-without-le k [] = omega arith
-length-without-le k (x ∷ xs) = let step = length-cond-le (not (same_key k x)) x (without k xs) (length xs) (length-without-le k xs) in omega arith
+length-without-le k (x ∷ xs) = let step = length-cond-le (not (same_key k x)) x (without_key k xs) (length xs) (length-without-le k xs) in omega arith
 
 -- ---- keys that differ
 
@@ -79,12 +79,12 @@ apart k (x ∷ xs) ys h p = at (same_key k x) refl (apart k xs ys h.1)
     at true e f = none ys (behind xs h.0) e
     at false e f = f (sym (ap (λ b. b || has_key k xs) e) ∙ p)
 
-pub distinct_without_left : (k : Key) (xs ys : List Key) → IsDistinct same_key (xs ++ ys) → has_key k ys ≡ false → IsDistinct same_key (without k xs ++ ys)
+pub distinct_without_left : (k : Key) (xs ys : List Key) → IsDistinct same_key (xs ++ ys) → has_key k ys ≡ false → IsDistinct same_key (without_key k xs ++ ys)
 distinct_without_left k xs ys h absent =
-    let P : List Key → Type 0 = λ l. IsDistinct same_key (without k xs ++ l) in
+    let P : List Key → Type 0 = λ l. IsDistinct same_key (without_key k xs ++ l) in
     subst P (without_absent k ys absent) (subst (IsDistinct same_key) (filter-append (λ j. not (same_key k j)) xs ys) (distinct_filter (λ j. not (same_key k j)) (xs ++ ys) h))
 
-pub distinct_without_right : (k : Key) (xs ys : List Key) → IsDistinct same_key (xs ++ ys) → has_key k xs ≡ false → IsDistinct same_key (xs ++ without k ys)
+pub distinct_without_right : (k : Key) (xs ys : List Key) → IsDistinct same_key (xs ++ ys) → has_key k xs ≡ false → IsDistinct same_key (xs ++ without_key k ys)
 distinct_without_right k xs ys h absent =
-    let P : List Key → Type 0 = λ l. IsDistinct same_key (l ++ without k ys) in
+    let P : List Key → Type 0 = λ l. IsDistinct same_key (l ++ without_key k ys) in
     subst P (without_absent k xs absent) (subst (IsDistinct same_key) (filter-append (λ j. not (same_key k j)) xs ys) (distinct_filter (λ j. not (same_key k j)) (xs ++ ys) h))

@@ -5,7 +5,7 @@ use Rattle.std.proofs.Math.ListN.{set, length-set}
 use Rattle.std.proofs.lemmas.Bool.{eq-eqb}
 use Rattle.eden_model.specs.declared.id.Key.{Key}
 use Rattle.eden_model.specs.Keys.{same_key}
-use Rattle.eden_import.specs.Keys.{has_key, without}
+use Rattle.eden_import.specs.Keys.{has_key, without_key}
 use Rattle.eden_import.specs.Queue.{Queue, Mark, IsQueue, IsPass, WantsNoOther, want_of, mark_of, stands, is_wanted, wants_key, unqueue_unwanted, after_want, after_leave, after_leave_own, after_await}
 use Rattle.eden_import.specs.Queue.{after_quit}
 use Rattle.eden_import.specs.Laws.{OneAwaits, OneQuits, KeepsFlight, ForgettingKeeps}
@@ -118,7 +118,7 @@ own_alone k q p h s =
 stands_left : (j k : Key) (p : ℕ) (q : Queue) → same_key j k ≡ false → stands k (after_leave j p q) ≡ stands k q
 stands_left j k p q other = at (wants_key j (want_of p q))
   where
-    kept : (b : Bool) → has_key k (cond b q.queue (without j q.queue)) ≡ has_key k q.queue
+    kept : (b : Bool) → has_key k (cond b q.queue (without_key j q.queue)) ≡ has_key k q.queue
     kept true = refl
     kept false = has_key-without k j q.queue ∙ ap (λ b. has_key k q.queue && not b) other ∙ and_true (has_key k q.queue)
       where

@@ -8,8 +8,9 @@ use Rattle.std.proofs.lemmas.Bool.{cases_Bool, or_cases, or_left, or_right, and_
 use Rattle.std.proofs.lemmas.Map.Keys.{IsDistinct-push, IsDistinct-tail}
 use Rattle.eden_model.specs.declared.id.Key.{Key}
 use Rattle.eden_model.specs.Keys.{same_key}
-use Rattle.eden_import.specs.Keys.{has_key, without}
-use Rattle.eden_import.specs.Queue.{Queue, Mark, IsQueue, IsPassCount, IsFlightCount, IsPass, WantsNoOther, want_of, stands, wants_key, is_wanted, empty, after_want, unqueue_unwanted, after_take}
+use Rattle.eden_import.specs.Keys.{has_key, without_key}
+use Rattle.eden_import.specs.Queue.{Queue, Mark, IsQueue, IsPassCount, IsFlightCount, IsPass, WantsNoOther, want_of, stands, wants_key, is_wanted, empty_queue}
+use Rattle.eden_import.specs.Queue.{after_want, unqueue_unwanted, after_take}
 use Rattle.eden_import.specs.Queue.{end_wants, after_done}
 use Rattle.eden_model.proofs.CallerLemmas.{same_key-Decides}
 use Rattle.eden_import.proofs.KeyLemmas.{same_key-equiv, has_key-append, has_key-without, without_absent, length-without-le, apart, distinct_without_left, distinct_without_right}
@@ -38,7 +39,7 @@ not_wanted : (k : Key) (n : ℕ) → is_wanted k (replicate n None) ≡ false
 not_wanted k zero = refl
 not_wanted k (suc n) = not_wanted k n
 
-pub empty_keeps : (n m : ℕ) → IsPassCount n → IsFlightCount m → IsQueue (empty n m)
+pub empty_keeps : (n m : ℕ) → IsPassCount n → IsFlightCount m → IsQueue (empty_queue n m)
 unfolding IsDistinct
 empty_keeps n m passes flights = record {
   some_passes = passes;
@@ -160,7 +161,7 @@ kept_awaited_left false b s h e = h
 pub not_in_flight : (k : Key) (q : Queue) → IsQueue q → has_key k q.queue ≡ true → has_key k q.flight ≡ false
 not_in_flight k q h p = ⊎_elim (λ t. absurd (both_ways (has_key k q.queue) (apart k q.flight q.queue h.once t) p)) (λ f. f) (cases_Bool (has_key k q.flight))
 
-without_keeps_once : (k : Key) (q : Queue) → IsQueue q → IsDistinct same_key (q.flight ++ without k q.queue)
+without_keeps_once : (k : Key) (q : Queue) → IsQueue q → IsDistinct same_key (q.flight ++ without_key k q.queue)
 without_keeps_once k q h =
     let P : List Key → Type 0 = λ l. IsDistinct same_key (q.flight ++ l) in
     ⊎_elim
@@ -177,13 +178,13 @@ unwant_keeps k p q h t = at (is_wanted k (set q.wants (p - 1) None)) refl
     seats : length (set q.wants (p - 1) None) ≡ q.passes
     seats = length-set q.wants (p - 1) None ∙ h.each_pass_wants
 
-    at : (b : Bool) → is_wanted k (set q.wants (p - 1) None) ≡ b → IsQueue (record q { queue = cond b q.queue (without k q.queue); wants = set q.wants (p - 1) None })
+    at : (b : Bool) → is_wanted k (set q.wants (p - 1) None) ≡ b → IsQueue (record q { queue = cond b q.queue (without_key k q.queue); wants = set q.wants (p - 1) None })
     at true e =
         requeue q q.queue (set q.wants (p - 1) None) h seats h.once
         (λ j m. ⊎_elim (λ same. ap (λ x. is_wanted x (set q.wants (p - 1) None)) (sym ((same_key-Decides k j).0 same)) ∙ e) (λ other. others j other ∙ h.wanted j m) (cases_Bool (same_key k j)))
         (λ j m. h.awaited j (is_wanted-set_none_le j q.wants (p - 1) m))
     at false e =
-        requeue q (without k q.queue) (set q.wants (p - 1) None) h seats (without_keeps_once k q h)
+        requeue q (without_key k q.queue) (set q.wants (p - 1) None) h seats (without_keeps_once k q h)
         (λ j m.
         let parts = and_parts (has_key j q.queue) (not (same_key k j)) (sym (has_key-without j k q.queue) ∙ m) in
         others j (not-true (same_key k j) parts.1) ∙ h.wanted j parts.0)
@@ -198,13 +199,13 @@ unwant_keeps k p q h t = at (is_wanted k (set q.wants (p - 1) None)) refl
 pub leave_wanted : (k : Key) (p : ℕ) (q : Queue) → IsQueue q → wants_key k (want_of p q) ≡ true → is_wanted k (set q.wants (p - 1) None) ≡ true
     → IsQueue (record q { wants = set q.wants (p - 1) None })
 leave_wanted k p q h t e =
-    let P : Bool → Type 0 = λ b. IsQueue (record q { queue = cond b q.queue (without k q.queue); wants = set q.wants (p - 1) None }) in
+    let P : Bool → Type 0 = λ b. IsQueue (record q { queue = cond b q.queue (without_key k q.queue); wants = set q.wants (p - 1) None }) in
     subst P e (unwant_keeps k p q h t)
 
-pub leave_dropped : (k : Key) (p : ℕ) (q : Queue) (ks : List Key) → IsQueue q → wants_key k (want_of p q) ≡ true → is_wanted k (set q.wants (p - 1) None) ≡ false → ks ≡ without k q.queue
+pub leave_dropped : (k : Key) (p : ℕ) (q : Queue) (ks : List Key) → IsQueue q → wants_key k (want_of p q) ≡ true → is_wanted k (set q.wants (p - 1) None) ≡ false → ks ≡ without_key k q.queue
     → IsQueue (record q { queue = ks; wants = set q.wants (p - 1) None })
 leave_dropped k p q ks h t e is =
-    let P : Bool → Type 0 = λ b. IsQueue (record q { queue = cond b q.queue (without k q.queue); wants = set q.wants (p - 1) None }) in
+    let P : Bool → Type 0 = λ b. IsQueue (record q { queue = cond b q.queue (without_key k q.queue); wants = set q.wants (p - 1) None }) in
     let Q : List Key → Type 0 = λ l. IsQueue (record q { queue = l; wants = set q.wants (p - 1) None }) in
     subst Q (sym is) (subst P e (unwant_keeps k p q h t))
 
@@ -264,9 +265,9 @@ land_keeps k q h t = record {
     absent : has_key k q.queue ≡ false
     absent = apart k q.flight q.queue h.once t
 
-pub land_drops : (k : Key) (q : Queue) (fs : List Key) (ws : List (Option Key)) → IsQueue q → has_key k q.flight ≡ true → fs ≡ without k q.flight → ws ≡ end_wants k q.wants
+pub land_drops : (k : Key) (q : Queue) (fs : List Key) (ws : List (Option Key)) → IsQueue q → has_key k q.flight ≡ true → fs ≡ without_key k q.flight → ws ≡ end_wants k q.wants
     → IsQueue (record q { flight = fs; wants = ws })
 land_drops k q fs ws h t is ends =
     let P : List Key → Type 0 = λ l. IsQueue (record q { flight = l; wants = ws }) in
-    let Q : List (Option Key) → Type 0 = λ l. IsQueue (record q { flight = without k q.flight; wants = l }) in
+    let Q : List (Option Key) → Type 0 = λ l. IsQueue (record q { flight = without_key k q.flight; wants = l }) in
     subst P (sym is) (subst Q (sym ends) (land_keeps k q h t))

@@ -9,5 +9,5 @@ abbrev pub has_key : Key → List Key → Bool
 has_key k ks = list_any (same_key k) ks
 
 -- these keys without that one
-abbrev pub without : Key → List Key → List Key
-without k ks = filter (λ j. not (same_key k j)) ks
+abbrev pub without_key : Key → List Key → List Key
+without_key k ks = filter (λ j. not (same_key k j)) ks

@@ -6,7 +6,7 @@ use Rattle.std.specs.Option.{option_map_or}
 use Rattle.eden_model.specs.declared.id.Key.{Key}
 use Rattle.eden_model.specs.declared.fault.Cause.{Cause}
 use Rattle.eden_model.specs.Keys.{same_key}
-use Rattle.eden_import.specs.Keys.{has_key, without}
+use Rattle.eden_import.specs.Keys.{has_key, without_key}
 
 -- what is kept of a failed key for a pass that wanted it
 abbrev pub Mark : Type 0
@@ -81,8 +81,9 @@ pub record IsQueue (q : Queue) : Type 0 where
 -- ---- the steps
 
 -- nothing is queued, in flight, wanted or marked
-abbrev pub empty : ℕ → ℕ → Queue
-empty passes flights = record { queue = []; flight = []; wants = replicate passes None; marks = replicate passes None; passes = passes; flights = flights }
+abbrev pub empty_queue : ℕ → ℕ → Queue
+empty_queue passes flights =
+    record { queue = []; flight = []; wants = replicate passes None; marks = replicate passes None; passes = passes; flights = flights }
 
 -- the pass wants the key, which goes to the queue's end where it stood nowhere
 abbrev pub after_want : Key → ℕ → Queue → Queue
@@ -90,7 +91,7 @@ after_want k p q = record q { queue = (if stands k q then q.queue else q.queue +
 
 -- with these wants, the key is no longer queued where none of them is for it
 abbrev pub unqueue_unwanted : Key → List (Option Key) → Queue → Queue
-unqueue_unwanted k ws q = record q { queue = (if is_wanted k ws then q.queue else without k q.queue); wants = ws }
+unqueue_unwanted k ws q = record q { queue = (if is_wanted k ws then q.queue else without_key k q.queue); wants = ws }
 
 -- the pass no longer wants the key, where it did
 abbrev pub after_leave : Key → ℕ → Queue → Queue
@@ -119,7 +120,7 @@ end_wants k ws = map (λ w. if wants_key k w then None else w) ws
 
 -- the key left the flight, and nobody wants it any more
 abbrev pub after_done : Key → Queue → Queue
-after_done k q = record q { flight = without k q.flight; wants = end_wants k q.wants }
+after_done k q = record q { flight = without_key k q.flight; wants = end_wants k q.wants }
 
 -- these marks, and a new one in the place of each whose pass wants the key
 abbrev pub put_marks : Key → Cause → List (Option Key) → List (Option Mark) → List (Option Mark)

@@ -2,7 +2,8 @@ ghost use Rattle.std.specs.Prelude.{◌≡◌, ◌↔◌, IsTrue, IfOk, if◌the
 ghost use Rattle.eden_import.specs.Keys.{has_key};
 ghost use Rattle.eden_import.specs.Queue.{Queue, IsQueue, IsPassCount, IsFlightCount, IsPass, WantsNoOther, want_of};
 ghost use Rattle.eden_import.specs.Queue.{mark_of, stands, next_key};
-ghost use Rattle.eden_import.specs.Queue.{empty, after_want, after_leave, after_leave_own, after_await, after_quit};
+ghost use Rattle.eden_import.specs.Queue.{empty_queue, after_want, after_leave, after_leave_own, after_await};
+ghost use Rattle.eden_import.specs.Queue.{after_quit};
 ghost use Rattle.eden_import.specs.Queue.{after_take, after_done, after_failed, after_failure};
 ghost use Rattle.eden_import.specs.declared.imports.Wanted.{Wanted};
 
@@ -72,7 +73,7 @@ impl<A: Allocator> Imports<A> {
         A: Clone,
         requires passes { IsPassCount passes }
         requires flights { IsFlightCount flights }
-        ensures empty { IfOk result (λ i. i ≡ empty passes flights) }
+        ensures empty { IfOk result (λ i. i ≡ empty_queue passes flights) }
         ensures kept { IfOk result IsQueue }
     {
         let seats = passes as usize;

@@ -1,6 +1,6 @@
 ghost use Rattle.std.specs.Prelude.{◌≡◌, vec_capacity, length};
 ghost use Rattle.std.specs.VecDeque.{deque_capacity};
-ghost use Rattle.eden_import.specs.Keys.{has_key, without};
+ghost use Rattle.eden_import.specs.Keys.{has_key, without_key};
 ghost use Rattle.eden_import.specs.Queue as queue;
 
 use eden_model::{Cause, Key};
@@ -9,7 +9,7 @@ use std::collections::VecDeque;
 
 /// Takes the key out.
 pub(crate) fn drop_key<A: Allocator>(keys: &mut Vec<Key, A>, key: Key)
-    ensures items { keys.new.items ≡ without key keys.old.items }
+    ensures items { keys.new.items ≡ without_key key keys.old.items }
     ensures room { vec_capacity keys.new ≡ vec_capacity keys.old }
 {
     keys.retain(|other| *other != key);
@@ -17,7 +17,7 @@ pub(crate) fn drop_key<A: Allocator>(keys: &mut Vec<Key, A>, key: Key)
 
 /// Takes the key out of the queue.
 pub(crate) fn unqueue<A: Allocator>(queue: &mut VecDeque<Key, A>, key: Key)
-    ensures items { queue.new.items ≡ without key queue.old.items }
+    ensures items { queue.new.items ≡ without_key key queue.old.items }
     ensures room { deque_capacity queue.new ≡ deque_capacity queue.old }
 {
     queue.retain(|other| *other != key);

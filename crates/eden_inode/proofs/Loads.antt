@@ -31,7 +31,7 @@ use Rattle.eden_overlay.specs.Getting.{Explains, ExplainsLength, ExplainsNumbers
 use Rattle.eden_overlay.proofs.CallerLemmas.{length_held, no_length}
 use Rattle.eden_tree.specs.Directory.{Row, child_of}
 use Rattle.eden_tree.specs.Paths.{row_at}
-use Rattle.eden_inode.specs.Faults.{told, IsGetFault, IsNumbersFault, without_numbers}
+use Rattle.eden_inode.specs.Faults.{told_get_fault, IsGetFault, IsNumbersFault, without_numbers}
 use Rattle.eden_coupling.specs.Kept.{IsTable, IsKept}
 use Rattle.eden_coupling.specs.Listings.{listing_of}
 use Rattle.eden_coupling.specs.Loading.{IsAt}
@@ -49,7 +49,7 @@ refused i value (Some bytes) e h = h.0
 
 -- what a mount tells of a fault is why there is none
 pub told_why : {X : Type 0} (i : Identifier) (value : List ℕ → Option X) (file : Option (List ℕ)) (honest : Type 0) (old new : ℕ) (f : GetFault)
-    → (honest → Explains i value file f) → (f ≡ get.Device → Rose old new) → IsGetFault honest old new (option_and_then value file) (told f)
+    → (honest → Explains i value file f) → (f ≡ get.Device → Rose old new) → IsGetFault honest old new (option_and_then value file) (told_get_fault f)
 told_why i value file honest old new get.Absent why rose = inr (λ h. ap (option_and_then value) (why h))
 told_why i value file honest old new (get.Damaged e) why rose = inr (λ h. refused i value file e (why h))
 told_why i value file honest old new get.Device why rose = inl (rose refl)
@@ -86,7 +86,7 @@ bad_why tree (Some bytes) e h = none_told tree bytes e h.1
 
 -- what a mount tells of a fault is why there are none
 pub numbers_why : (tree : Id) (file : Option (List ℕ)) (honest : Type 0) (old new : ℕ) (f : GetFault)
-    → (honest → ExplainsNumbers tree file f) → (f ≡ get.Device → Rose old new) → IsGetFault honest old new (option_and_then (numbers_of tree) file) (told f)
+    → (honest → ExplainsNumbers tree file f) → (f ≡ get.Device → Rose old new) → IsGetFault honest old new (option_and_then (numbers_of tree) file) (told_get_fault f)
 numbers_why tree file honest old new get.Absent why rose = inr (λ h. absent_why tree file (why h))
 numbers_why tree file honest old new (get.Damaged e) why rose = inr (λ h. bad_why tree file e (why h))
 numbers_why tree file honest old new get.Device why rose = inl (rose refl)
@@ -128,13 +128,13 @@ stands_on_tree p x y i at there o from (inr empty) =
 -- numbers that are told to be saved for it are
 pub numbers_there : (honest : Type 0) (F : Stored) (p : Path) (x : Row) (i : Id) (at : IsAt p x (origin.Object i)) (y : Row) (tree : Id) (r : Result Bool Fault)
     → row_at p x ≡ Some y → y.origin ≡ origin.Object tree → (honest → IfOk r (λ b. b ≡ is_some (saved_at F y.number tree))) → IfOk r (λ b. IsTrue b → HasNumbers honest F p x)
-numbers_there honest F p x i at y tree (Err e) there from told = tt
-numbers_there honest F p x i at y tree (Ok b) there from told = λ yes.
+numbers_there honest F p x i at y tree (Err e) there from told_get_fault = tt
+numbers_there honest F p x i at y tree (Ok b) there from told_get_fault = λ yes.
     let same = at_origin p x y (origin.Object i) at there in
     record {
       id = tree;
       at = record { row = y; there = there; kind = ap (λ (r : Row). r.kind) (sym same) ∙ at.kind; unloaded = ap child_of (sym same) ∙ at.unloaded; origin = from };
-      saved = λ h. sym (told h) ∙ yes;
+      saved = λ h. sym (told_get_fault h) ∙ yes;
     }
 
 not_saved : (o : Option (List StoredEntry)) → IsSome o → o ≡ None → ⊥
@@ -225,7 +225,7 @@ same_gains S T next are same = record {
 
 -- what a mount tells of a fault is why no length is told
 pub length_why : (file : Option (List ℕ)) (honest : Type 0) (old new : ℕ) (f : GetFault)
-    → (honest → ExplainsLength file f) → (f ≡ get.Device → Rose old new) → IsGetFault honest old new (option_and_then content_in file) (told f)
+    → (honest → ExplainsLength file f) → (f ≡ get.Device → Rose old new) → IsGetFault honest old new (option_and_then content_in file) (told_get_fault f)
 length_why file honest old new get.Absent why rose = inr (λ h. ap (option_and_then content_in) (why h))
 length_why file honest old new (get.Damaged e) why rose = inr (λ h. no_length file e (why h))
 length_why file honest old new get.Device why rose = inl (rose refl)
@@ -234,7 +234,7 @@ length_why file honest old new get.Memory why rose = tt
 -- one that is told is that of the content, which is stored
 pub length_there : (R : Repository) (F : Stored) (x : Row) (next : ℕ) (p : Path) (z : Row) (r : Result ℕ Fault) → IsTable x next → IsKept R F x next → row_at p x ≡ Some z
     → z.kind ≢ kind.Dir → z.origin ≡ origin.Own → IfOk r (TellsLength F z.number) → IfOk r (λ len. (y : Row) → row_at p x ≡ Some y → HoldsLength F y.number len)
-length_there R F x next p z (Err e) table kept at file own told = tt
-length_there R F x next p z (Ok len) table kept at file own told = λ y there.
+length_there R F x next p z (Err e) table kept at file own told_get_fault = tt
+length_there R F x next p z (Ok len) table kept at file own told_get_fault = λ y there.
     let held = own_held R F x next table kept z (place_at p x z at) file own in
-    subst (λ (w : Row). HoldsLength F w.number len) (same_some z y (sym at ∙ there)) (held.0, (held.1, length_held F z.number len held.0 told held.1))
+    subst (λ (w : Row). HoldsLength F w.number len) (same_some z y (sym at ∙ there)) (held.0, (held.1, length_held F z.number len held.0 told_get_fault held.1))

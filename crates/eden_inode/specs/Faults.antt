@@ -10,11 +10,11 @@ use Rattle.eden_overlay.specs.declared.fault.GetFault.{GetFault}
 use Rattle.eden_overlay.specs.declared.fault.GetFault.TheVariants as get
 
 -- all but want of memory is a fault of the overlay
-abbrev pub told : GetFault → Fault
-told get.Absent = fault.Overlay
-told (get.Damaged refusal) = fault.Overlay
-told get.Device = fault.Overlay
-told get.Memory = fault.Memory
+abbrev pub told_get_fault : GetFault → Fault
+told_get_fault get.Absent = fault.Overlay
+told_get_fault (get.Damaged refusal) = fault.Overlay
+told_get_fault get.Device = fault.Overlay
+told_get_fault get.Memory = fault.Memory
 
 -- no memory; or the device failed, or what was asked for isn't stored
 abbrev pub IsGetFault : {X : Type 0} → Type 0 → ℕ → ℕ → Option X → Fault → Type 0

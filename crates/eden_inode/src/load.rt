@@ -11,7 +11,7 @@ ghost use Rattle.eden_tree.specs.Directory.{with_child};
 ghost use Rattle.eden_coupling.specs.Listings.{listing_of};
 ghost use Rattle.eden_coupling.specs.Loading.{IsAt, IsNew, with_loaded};
 ghost use Rattle.eden_coupling.specs.Numberings.{in_files, entries_by};
-ghost use Rattle.eden_inode.specs.Faults.{told, IsGetFault};
+ghost use Rattle.eden_inode.specs.Faults.{told_get_fault, IsGetFault};
 
 use crate::fill::from_stored;
 use eden_model::{Fault, Id, Name, Origin, World};
@@ -59,7 +59,7 @@ pub(crate) fn put_loaded<A: Allocator>(
 
 /// What a mount tells of a fault of its overlay.
 fn told(fault: GetFault) -> Fault
-    ensures { result ≡ told fault }
+    ensures { result ≡ told_get_fault fault }
 {
     match fault {
         GetFault::Absent | GetFault::Damaged(_) | GetFault::Device => Fault::Overlay,

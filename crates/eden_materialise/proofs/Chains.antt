@@ -19,7 +19,7 @@ use Rattle.eden_coupling.specs.Materialising.{Chain, lowest_own, lowest, owned_a
 use Rattle.eden_coupling.specs.Shown.{shown_in}
 use Rattle.eden_coupling.proofs.CallerLemmas.{place_at, chain_joined, ties_sound, owned_table, owned_stays, owned_marked, owned_kept, owned_alike, refused_kept, refused_alike}
 use Rattle.eden_materialise.specs.Chains.{lowest_of, with_lowest, StaySound, IsHeld, Owns}
-use Rattle.eden_materialise.specs.Faults.{told, IsStoreFault}
+use Rattle.eden_materialise.specs.Faults.{told_files_fault, IsStoreFault}
 use Rattle.eden_materialise.specs.Puts.{AtDirectory}
 
 -- what holds anyhow holds after an error
@@ -31,7 +31,7 @@ abbrev failed_by : FilesFault → Result (Unit {0}) FilesFault
 failed_by fault = Err fault
 
 -- a fault of the files, as it is told
-pub told_fault : (old new : ℕ) (fault : FilesFault) (u : Fault) → u ≡ told fault → Counted (failed_by fault ≡ failed_by files.Device) old new → IsStoreFault old new u
+pub told_fault : (old new : ℕ) (fault : FilesFault) (u : Fault) → u ≡ told_files_fault fault → Counted (failed_by fault ≡ failed_by files.Device) old new → IsStoreFault old new u
 told_fault old new files.Device u is c = subst (IsStoreFault old new) (sym is) (c.rose refl)
 told_fault old new files.Memory u is c = subst (IsStoreFault old new) (sym is) (c.same (λ same. absurd (cc)))
 

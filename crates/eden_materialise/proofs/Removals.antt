@@ -19,7 +19,7 @@ use Rattle.eden_materialise.specs.EntryMoves.{own_number}
 use Rattle.eden_materialise.specs.Faults.{IsStoreFault}
 use Rattle.eden_materialise.specs.Listings.{IsHeldFor}
 use Rattle.eden_materialise.specs.Puts.{AtDirectory}
-use Rattle.eden_materialise.specs.Removals.{HasEntry, Removes, RemovesEntry}
+use Rattle.eden_materialise.specs.Removals.{HasEntry, RemovesFrom, RemovesEntry}
 use Rattle.eden_materialise.proofs.EntryMoves.{own_is, clears_from, cleared, never_less}
 use Rattle.eden_materialise.proofs.Listings.{changes_kept_then, changes_shown, changes_unseen}
 
@@ -49,7 +49,7 @@ clear_removed honest R F x p n held G h up (Some k) is =
 
 module _ (honest : Type 0) (R : Repository) (p : Path) (n : Name) (F : Stored) (x : Row) (old : ℕ) (G : Stored) (z : Row) (new : ℕ) (next : ℕ) (table : IsTable x next)
     (may : MayStand honest R F x next p n None) where
-  pub removes : (answer : Result (Unit {0}) Fault) → RemovesEntry honest p n F x old G z new answer → OnOk answer (AtDirectory p x (λ y d. Removes honest p n F x y d old G new))
+  pub removes : (answer : Result (Unit {0}) Fault) → RemovesEntry honest p n F x old G z new answer → OnOk answer (AtDirectory p x (λ y d. RemovesFrom honest p n F x y d old G new))
   removes (Ok u) c = λ y d at h. record {
     between = c.between;
     stored = λ hon. c.changes.stored hon y d at h;

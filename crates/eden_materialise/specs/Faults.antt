@@ -7,9 +7,9 @@ use Rattle.eden_overlay.specs.declared.files.FilesFault.{FilesFault}
 use Rattle.eden_overlay.specs.declared.files.FilesFault.TheVariants as files
 
 -- a failed device is a fault of the overlay
-abbrev pub told : FilesFault → Fault
-told files.Device = fault.Overlay
-told files.Memory = fault.Memory
+abbrev pub told_files_fault : FilesFault → Fault
+told_files_fault files.Device = fault.Overlay
+told_files_fault files.Memory = fault.Memory
 
 -- the device failed, or there was no memory and the device did not fail
 abbrev pub IsStoreFault : ℕ → ℕ → Fault → Type 0

@@ -28,14 +28,14 @@ pub record HasEntry (x : Row) (p : Path) (n : Name) : Type 0 where
 
 -- F became G: the chain of the directory y was stored without the entry, and then the file of what went, where it may have
 -- one, was removed, or is left where the device failed at that
-pub record Removes (honest : Type 0) (p : Path) (n : Name) (F : Stored) (x y : Row) (d : Directory) (old : ℕ) (G : Stored) (new : ℕ) : Type 0 where
+pub record RemovesFrom (honest : Type 0) (p : Path) (n : Name) (F : Stored) (x y : Row) (d : Directory) (old : ℕ) (G : Stored) (new : ℕ) : Type 0 where
   pub between : Stored
   pub stored : honest → Above (with_entries F y.number (listing_of (changed d n None))) x p between
   pub clears : Clears honest between old G new (own_number (find_row n d.rows))
 
 -- .. of the files of a table, for the entry under that name at a path
 abbrev pub RemovesStored : {W F : Type 0} → Files F W → Type 0 → Path → Name → Table F → Table F → Type 0
-RemovesStored f honest p n s t = AtDirectory p s.root (λ y d. Removes honest p n (f.stored s.files) s.root y d
+RemovesStored f honest p n s t = AtDirectory p s.root (λ y d. RemovesFrom honest p n (f.stored s.files) s.root y d
     (f.failures s.files) (f.stored t.files) (f.failures t.files))
 
 -- the entry is left out, and then its file is cleared; after an error nothing is

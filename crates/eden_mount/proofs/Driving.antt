@@ -21,7 +21,7 @@ use Rattle.eden_model.specs.Histories.{entry}
 use Rattle.eden_object.specs.Objects.{Body}
 use Rattle.eden_source.specs.Asking.{Asked}
 use Rattle.eden_source.specs.Fetching.{Answer}
-use Rattle.eden_import.specs.Keys.{has_key, without}
+use Rattle.eden_import.specs.Keys.{has_key, without_key}
 use Rattle.eden_import.specs.Queue.{Queue, Mark, IsQueue, IsPass, want_of, mark_of, wants_key, next_key, after_want, after_leave, after_await, after_quit, after_take, after_done, after_failed}
 use Rattle.eden_import.specs.Queue.{after_failure}
 use Rattle.eden_import.proofs.CallerLemmas.{all_are_met, wanters_are_marked}
@@ -64,8 +64,8 @@ took_alone k j q grounded queued some is =
 own_key : (k : Key) → same_key k k ≡ true
 own_key k = (same_key-Decides k k).1 refl
 
-landed_alone : (k : Key) (fs : List Key) → fs ≡ k ∷ [] → without k fs ≡ []
-landed_alone k fs is = ap (without k) is ∙ ap (λ b. cond (not b) (k ∷ []) []) (own_key k)
+landed_alone : (k : Key) (fs : List Key) → fs ≡ k ∷ [] → without_key k fs ≡ []
+landed_alone k fs is = ap (without_key k) is ∙ ap (λ b. cond (not b) (k ∷ []) []) (own_key k)
 
 met : (k : Key) (o : Option Key) (X : Option Mark) (x : Mark) → o ≡ Some k → (cond (wants_key k o) None o ≡ None) × (cond (wants_key k o) (Some x) X ≡ Some x)
 met k None X x e = absurd (cc e)
@@ -125,7 +125,7 @@ module _ {T : Type 0} (A : Table T) where
 
   -- the queue after the caller's key landed, with a mark or without
   module _ (q : Request) (k : Key) (m m' : Core T) (kept : IsQueue m'.queue) (h : IsFlying q k m) (seats : m'.seats ≡ m.seats) where
-    driven_on : m'.queue.queue ≡ m.queue.queue → m'.queue.flight ≡ without k m.queue.flight → want_of 1 m'.queue ≡ cond (wants_key k (want_of 1 m.queue)) None (want_of 1 m.queue)
+    driven_on : m'.queue.queue ≡ m.queue.queue → m'.queue.flight ≡ without_key k m.queue.flight → want_of 1 m'.queue ≡ cond (wants_key k (want_of 1 m.queue)) None (want_of 1 m.queue)
         → ((j : Key) (x : Cause) → mark_of 1 m'.queue ≡ Some (j, x) → A.needs m'.table q j) → IsDriven A q m'
     driven_on queue flight want marked = record {
       kept = kept;

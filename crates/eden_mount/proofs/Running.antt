@@ -20,7 +20,8 @@ use Rattle.eden_mount.specs.Tables.{Table}
 use Rattle.eden_mount.specs.Core.{Core, seat_of, Pends}
 use Rattle.eden_mount.specs.Kept.{IsMount}
 use Rattle.eden_mount.specs.Events.{Steps, starts, turns, takes, arrives, fails, unloads, syncs}
-use Rattle.eden_mount.specs.Spans.{request_of, since_of, with_pass, then_asked, asked_after, entry_of, then_told, told, IsAnswered, AreAnswered, then_length, then_begun, IsNumbered, AreNumbered}
+use Rattle.eden_mount.specs.Spans.{request_of, since_of, with_pass, then_asked, asked_after, entry_of, then_told, told_in_run, IsAnswered, AreAnswered}
+use Rattle.eden_mount.specs.Spans.{then_length, then_begun, IsNumbered, AreNumbered}
 use Rattle.eden_mount.proofs.SeatLemmas.{write_one, within_if_some}
 
 pub taken_passes : (q : Queue) (o : Option Key) → (after_take o q).passes ≡ q.passes
@@ -146,15 +147,15 @@ module _ {T : Type 0} (A : Table T) (honest : Type 0) (copies : Bool) (opening :
       record { links = w.0; history = w.1; grown = w.2; numbered = tt }
 
   grows : (f : ℕ → Option Request) (b : ℕ → Option ℕ) (m m' : Core T) (es : List Event) (os : List Outcome) → Links f b m → IsMount A honest opening N m → Runs m es os m'
-      → m'.history ≡ m.history ++ told f es os
+      → m'.history ≡ m.history ++ told_in_run f es os
   grows f b m m' [] [] l h r = ap (λ (x : Core T). x.history) r ∙ sym (append-nil m.history)
   grows f b m m' [] (o ∷ os) l h r = absurd r
   grows f b m m' (e ∷ es) [] l h r = absurd r
   grows f b m m' (e ∷ es) (o ∷ os) l h (k, step, kept, more) =
       let one = follows f b m k e o h l step in
       grows (then_asked f e o) (then_begun b (length m.history) e o) k m' es os one.links kept more
-      ∙ ap (λ es'. es' ++ told (then_asked f e o) es os) one.history
-      ∙ append_assoc m.history (then_told f e o) (told (then_asked f e o) es os)
+      ∙ ap (λ es'. es' ++ told_in_run (then_asked f e o) es os) one.history
+      ∙ append_assoc m.history (then_told f e o) (told_in_run (then_asked f e o) es os)
 
   numbers : (f : ℕ → Option Request) (b : ℕ → Option ℕ) (n : ℕ) (m m' : Core T) (es : List Event) (os : List Outcome) → Links f b m → length m.history ≡ n → IsMount A honest opening N m
       → Runs m es os m' → AreNumbered b n es os
@@ -233,7 +234,7 @@ module _ {T : Type 0} (A : Table T) (honest : Type 0) (copies : Bool) (opening :
   from_start : (m : Core T) → Links (request_of m) (since_of m) m
   from_start m = record { asked = λ c low. refl; begun = λ c low. refl }
 
-  pub history_grows : OfRuns (λ m es os m'. m'.history ≡ m.history ++ told (request_of m) es os)
+  pub history_grows : OfRuns (λ m es os m'. m'.history ≡ m.history ++ told_in_run (request_of m) es os)
   history_grows m m' es os h r = grows (request_of m) (since_of m) m m' es os (from_start m) h r
 
   pub numbers_are_in_spans : OfRuns (λ m es os m'. AreNumbered (since_of m) (length m.history) es os)

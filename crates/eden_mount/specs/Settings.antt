@@ -1,7 +1,7 @@
 -- What a mount is opened with.
 use Rattle.std.specs.Prelude.{◌≡◌, ◌≤◌, ◌<◌, ◌^◌, ℕ, List, replicate, Option, None}
 use Rattle.eden_cache.specs.Cache.{IsObjectBound, IsByteBound, IsSizeBound}
-use Rattle.eden_import.specs.Queue.{Queue, IsPassCount, IsFlightCount, empty}
+use Rattle.eden_import.specs.Queue.{Queue, IsPassCount, IsFlightCount, empty_queue}
 use Rattle.eden_mount.specs.declared.seats.Pending.{Pending}
 
 pub record Settings : Type 0 where
@@ -37,7 +37,7 @@ abbrev pub room_from : Queue → List (Option Pending) → Room
 room_from q seats = record { queue = q; seats = seats }
 
 abbrev pub room_for : Settings → Room
-room_for s = room_from (empty s.passes s.flights) (replicate s.passes None)
+room_for s = room_from (empty_queue s.passes s.flights) (replicate s.passes None)
 
 -- .. is that of some settings
 pub record IsRoom (r : Room) : Type 0 where

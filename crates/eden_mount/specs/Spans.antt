@@ -63,10 +63,10 @@ abbrev pub then_told : (ℕ → Option Request) → Event → Outcome → List E
 then_told f (event.Turn c) (outcome.Turn (Done n r)) = entry_of c (f c) r
 then_told f e o = []
 
-abbrev pub told : (ℕ → Option Request) → List Event → List Outcome → List Entry
-told f [] os = []
-told f (e ∷ es) [] = []
-told f (e ∷ es) (o ∷ os) = then_told f e o ++ told (then_asked f e o) es os
+abbrev pub told_in_run : (ℕ → Option Request) → List Event → List Outcome → List Entry
+told_in_run f [] os = []
+told_in_run f (e ∷ es) [] = []
+told_in_run f (e ∷ es) (o ∷ os) = then_told f e o ++ told_in_run (then_asked f e o) es os
 
 -- ---- answers
 

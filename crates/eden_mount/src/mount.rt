@@ -10,7 +10,7 @@ ghost use Rattle.eden_mount.specs.Core.{Pends, IsFree, IsLeastBusy, pending_coun
 ghost use Rattle.eden_mount.specs.Steps.{IsRefused, Starts, Asks, Turns, GoesOn, Takes};
 ghost use Rattle.eden_mount.specs.Steps.{Arrives, Fails, LetsGo, IsSynced};
 ghost use Rattle.eden_mount.specs.Events.{IsHonestEvent, AreHonest, Steps};
-ghost use Rattle.eden_mount.specs.Spans.{request_of, since_of, waits_of, heard_by, flies_in, told, asked_after};
+ghost use Rattle.eden_mount.specs.Spans.{request_of, since_of, waits_of, heard_by, flies_in, told_in_run, asked_after};
 ghost use Rattle.eden_mount.specs.Spans.{waits_after, AreAnswered, AreNumbered, AreBlamed, AreFlown};
 ghost use Rattle.eden_mount.specs.Kept.{IsMount, core_from};
 ghost use Rattle.eden_mount.specs.Serving.{IsAtRest};
@@ -373,7 +373,7 @@ impl<W: World, T: Attempts<W> + Drop, A: Allocator, H: History> Mount<W, T, A, H
     pub fn run(&mut self, events: Vec<Event>) -> Result<Vec<Outcome>, AllocError>
         requires { W.honest → AreHonest W.repository events.items }
         ensures history { IfOk result (λ os. self.new.history
-            ≡ self.old.history ++ told (request_of self.old) events.items os.items) }
+            ≡ self.old.history ++ told_in_run (request_of self.old) events.items os.items) }
         ensures legal { W.honest → Legal W.opening W.numbers self.new.history }
         ensures shown { W.honest → T.table.shown self.new.table ≡ replay W.opening self.new.history }
         ensures backed { W.honest → Backs (replay_numbers W.numbers self.new.history)

@@ -34,7 +34,7 @@ use Rattle.eden_ops.specs.Attempts.{IsUnsaved, Wants, object_kind}
 use Rattle.eden_ops.specs.Contents.{HasContent}
 use Rattle.eden_ops.specs.Faults.{HoldsNone, own, numbers, IsCaused}
 use Rattle.eden_ops.specs.Keeping.{Beside, Keeps}
-use Rattle.eden_ops.specs.Known.{IsLoadedAt}
+use Rattle.eden_ops.specs.Known.{IsKnownLoadedAt}
 use Rattle.eden_ops.proofs.Growing.{loaded_there}
 use Rattle.eden_ops.proofs.Steps.{loads_object, loads_stored, loads_none}
 
@@ -49,15 +49,15 @@ module _ {W F : Type 0} (w : Ghosts W) (f : Files F W) (p : Path) (s t : Table F
   beside : Beside w f s t
   beside = record { stored = stored; failures = counted; clock = rest.0; changes = rest.1 }
 
-  loaded_at : (o : Origin) (at : IsAt p s.root o) (d : Directory) → t.root ≡ with_loaded p s.clock d s.root → IsLoadedAt p t.root
-  loaded_at o at d is = subst (λ (z : Row). IsLoadedAt p z) (sym is) (loaded_there p s.root at.row d at.there at.unloaded at.kind s.clock)
+  loaded_at : (o : Origin) (at : IsAt p s.root o) (d : Directory) → t.root ≡ with_loaded p s.clock d s.root → IsKnownLoadedAt p t.root
+  loaded_at o at d is = subst (λ (z : Row). IsKnownLoadedAt p z) (sym is) (loaded_there p s.root at.row d at.there at.unloaded at.kind s.clock)
 
   -- without a tree object
   pub stored_keeps : (w.honest → KeepsNumbers w.repository (f.stored s.files) s.root s.next) → HasNoTree w.honest (f.stored s.files) p s.root
       → LoadsStored w.honest s.clock (f.stored s.files) s.root p t.root × (t.next ≡ s.next) → Keeps w f (p ∷ []) s t
   stored_keeps k none l = loads_stored w f s t p k none l.0 l.1 beside
 
-  pub stored_loaded : HasNoTree w.honest (f.stored s.files) p s.root → LoadsStored w.honest s.clock (f.stored s.files) s.root p t.root → IsLoadedAt p t.root
+  pub stored_loaded : HasNoTree w.honest (f.stored s.files) p s.root → LoadsStored w.honest s.clock (f.stored s.files) s.root p t.root → IsKnownLoadedAt p t.root
   stored_loaded (inl at) l = loaded_at origin.Own at l.loads.directory l.loads.is
   stored_loaded (inr (inl at)) l = loaded_at origin.Empty at l.loads.directory l.loads.is
   stored_loaded (inr (inr has)) l = loaded_at (origin.Object has.id) has.at l.loads.directory l.loads.is
@@ -66,7 +66,7 @@ module _ {W F : Type 0} (w : Ghosts W) (f : Files F W) (p : Path) (s t : Table F
   pub object_keeps : (es : List TreeEntry) → HasTree w.repository w.honest (f.stored s.files) p s.root es → LoadsObject s.clock s.next s.root p es t.root t.next → Keeps w f (p ∷ []) s t
   object_keeps es has l = loads_object w f s t p es has l beside
 
-  pub object_loaded : (es : List TreeEntry) → HasTree w.repository w.honest (f.stored s.files) p s.root es → LoadsObject s.clock s.next s.root p es t.root t.next → IsLoadedAt p t.root
+  pub object_loaded : (es : List TreeEntry) → HasTree w.repository w.honest (f.stored s.files) p s.root es → LoadsObject s.clock s.next s.root p es t.root t.next → IsKnownLoadedAt p t.root
   object_loaded es has l = loaded_at (origin.Object has.id) has.at l.directory l.is
 
   -- refused
@@ -126,7 +126,7 @@ module _ {W F : Type 0} (w : Ghosts W) (f : Files F W) (p : Path) (s t : Table F
 
   -- by what `Inodes::load` answers
   pub stored_ok : (r : Result (Unit {0}) Fault) → HasNoTree w.honest (f.stored s.files) p s.root
-      → OnOk r (LoadsStored w.honest s.clock (f.stored s.files) s.root p t.root × (t.next ≡ s.next)) → OnOk r (IsLoadedAt p t.root)
+      → OnOk r (LoadsStored w.honest s.clock (f.stored s.files) s.root p t.root × (t.next ≡ s.next)) → OnOk r (IsKnownLoadedAt p t.root)
   stored_ok (Ok u) none l = stored_loaded none l.0
   stored_ok (Err e) none l = tt
 
@@ -141,7 +141,7 @@ module _ {W F : Type 0} (w : Ghosts W) (f : Files F W) (p : Path) (s t : Table F
   stored_why (Err e) still why = stored_caused still e why
 
   module _ (es : List TreeEntry) (has : HasTree w.repository w.honest (f.stored s.files) p s.root es) where
-    pub object_ok : (r : Result (Unit {0}) Fault) → OnOk r (LoadsObject s.clock s.next s.root p es t.root t.next) → OnOk r (IsLoadedAt p t.root)
+    pub object_ok : (r : Result (Unit {0}) Fault) → OnOk r (LoadsObject s.clock s.next s.root p es t.root t.next) → OnOk r (IsKnownLoadedAt p t.root)
     object_ok (Ok u) l = object_loaded es has l
     object_ok (Err e) l = tt
 

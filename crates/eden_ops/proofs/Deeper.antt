@@ -8,7 +8,7 @@ use Rattle.eden_model.specs.Trees.{Name, Path, Tree, Unlisted, through, walk_fro
 use Rattle.eden_tree.specs.Directory.{Row, Directory, child_of}
 use Rattle.eden_tree.specs.Paths.{row_at, Standing, standing}
 use Rattle.eden_coupling.proofs.CallerLemmas.{map_some}
-use Rattle.eden_ops.specs.Known.{known, IsLoadedAt, place_from, is_unlisted}
+use Rattle.eden_ops.specs.Known.{known, IsKnownLoadedAt, place_from, is_unlisted}
 use Rattle.eden_ops.specs.Laws.{Grows, PlaceIsFront, NextIsDeeper}
 use Rattle.eden_ops.proofs.Walking.{known_loaded, known_at, known_dir}
 
@@ -40,7 +40,7 @@ place_long F front (n ∷ rest) =
 loaded_standing : (y : Row) (at : ℕ) (unsaved : Bool) → (standing y).loaded ≡ Some (at, unsaved) → (d : Directory) × (child_of y ≡ Some d)
 loaded_standing y at unsaved is = let h = map_some (λ (d : Directory). (d.stamp, d.unsaved)) (child_of y) (at, unsaved) (sym is) in (h.0, h.1.0)
 
-pub stays_loaded : (x z : Row) (p : Path) → Grows x z → IsLoadedAt p x → IsLoadedAt p z
+pub stays_loaded : (x z : Row) (p : Path) → Grows x z → IsKnownLoadedAt p x → IsKnownLoadedAt p z
 stays_loaded x z p grows is =
     let y = known_dir x p is in
     let d = y.1.1.0 in
@@ -52,8 +52,8 @@ stays_loaded x z p grows is =
 
 module _ (x z : Row) (grows : Grows x z) where
   deeper_by : (front : Path) (n : Name) (rest : Path) (o : Option Node) → known x front ≡ o → through o (walk_from (known x) (front ++ n ∷ []) rest) ≡ Unlisted
-      → IsLoadedAt (cond (is_unlisted o) front (place_from (known x) (front ++ n ∷ []) rest)) z
-      → (walk_from (known x) (front ++ n ∷ []) rest ≡ Unlisted → IsLoadedAt (place_from (known x) (front ++ n ∷ []) rest) z
+      → IsKnownLoadedAt (cond (is_unlisted o) front (place_from (known x) (front ++ n ∷ []) rest)) z
+      → (walk_from (known x) (front ++ n ∷ []) rest ≡ Unlisted → IsKnownLoadedAt (place_from (known x) (front ++ n ∷ []) rest) z
       → length (place_from (known x) (front ++ n ∷ []) rest) < length (place_from (known z) (front ++ n ∷ []) rest))
       → length (cond (is_unlisted o) front (place_from (known x) (front ++ n ∷ []) rest)) < length (cond (is_unlisted (known z front)) front (place_from (known z) (front ++ n ∷ []) rest))
   deeper_by front n rest None at w l on = cc
@@ -67,7 +67,7 @@ module _ (x z : Row) (grows : Grows x z) where
       subst (λ (o : Option Node). length front < length (cond (is_unlisted o) front (place_from (known z) (front ++ n ∷ []) rest))) (sym l)
       (omega (arith, long, length-append front (n ∷ [])))
 
-  deeper_from : (front rest : Path) → walk_from (known x) front rest ≡ Unlisted → IsLoadedAt (place_from (known x) front rest) z
+  deeper_from : (front rest : Path) → walk_from (known x) front rest ≡ Unlisted → IsKnownLoadedAt (place_from (known x) front rest) z
       → length (place_from (known x) front rest) < length (place_from (known z) front rest)
   deeper_from front [] w l = cc
   deeper_from front (n ∷ rest) w l = deeper_by front n rest (known x front) refl w l (λ a b. deeper_from (front ++ n ∷ []) rest a b)

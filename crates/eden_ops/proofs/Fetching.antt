@@ -14,7 +14,7 @@ use Rattle.eden_coupling.specs.Loading.{IsAt}
 use Rattle.eden_inode.specs.declared.seen.Seen.{Seen}
 use Rattle.eden_ops.specs.Attempts.{IsSeen, IsShown}
 use Rattle.eden_ops.specs.Contents.{HasContent}
-use Rattle.eden_ops.specs.Known.{known_node, IsLoadedAt}
+use Rattle.eden_ops.specs.Known.{known_node, IsKnownLoadedAt}
 use Rattle.eden_ops.proofs.Meeting.{some_of}
 use Rattle.eden_ops.proofs.Walking.{known_at, known_loaded, known_unloaded}
 
@@ -45,7 +45,7 @@ module _ (p : Path) (x : Row) (seen : Seen) (s : IsSeen p x seen) where
   known_away off = known_unloaded s.row (away off)
 
   -- its directory, which is loaded or not
-  pub is_loaded : seen.loaded ≡ true → IsLoadedAt p x
+  pub is_loaded : seen.loaded ≡ true → IsKnownLoadedAt p x
   is_loaded on = let d = some_of (child_of s.row) seen.loaded s.loaded on in known_at x p s.row (Dir true) s.there (known_loaded s.row d.0 d.1)
 
   pub dir_kind : seen.loaded ≡ false → (seen.loaded ≡ true) ⊎ (seen.kind ≡ kind.Dir) → s.row.kind ≡ kind.Dir

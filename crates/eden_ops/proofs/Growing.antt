@@ -12,7 +12,7 @@ use Rattle.eden_tree.specs.Directory.{Row, Directory, child_of, with_child}
 use Rattle.eden_tree.specs.Paths.{row_at, edit_row, stamped_along, Standing, standing, standing_at, stamped}
 use Rattle.eden_tree.proofs.CallerLemmas.{same-≡, child_of-with_child, edits_one, edits_there, stamps_along}
 use Rattle.eden_coupling.proofs.CallerLemmas.{map_some}
-use Rattle.eden_ops.specs.Known.{IsLoadedAt}
+use Rattle.eden_ops.specs.Known.{IsKnownLoadedAt}
 use Rattle.eden_ops.specs.Laws.{Stays, Grows}
 use Rattle.eden_ops.proofs.Deeper.{stays_loaded}
 use Rattle.eden_ops.proofs.Walking.{front_loaded, known_at, known_loaded, known_dir}
@@ -134,7 +134,7 @@ module _ (p : Path) (x y : Row) (d : Directory) (at : row_at p x ≡ Some y) (no
   there_by q v is (inr (n ∷ r, (behind, split))) = absurd (nothing_below n r v (ap (λ (t : Path). standing_at t x) (sym split) ∙ is))
 
   -- a loaded directory isn't at or below the path
-  not_below : (q s : Path) → IsLoadedAt q x → q ≡ p ++ s → ⊥
+  not_below : (q s : Path) → IsKnownLoadedAt q x → q ≡ p ++ s → ⊥
   not_below q [] loaded split =
       let z = known_dir x q loaded in
       let same = same_Some z.0 y (sym z.1.0 ∙ ap (λ (t : Path). row_at t x) (split ∙ append-nil p) ∙ at) in
@@ -143,7 +143,7 @@ module _ (p : Path) (x y : Row) (d : Directory) (at : row_at p x ≡ Some y) (no
       let z = known_dir x q loaded in
       nothing_below n s (standing z.0) (ap (λ (t : Path). standing_at t x) (sym split) ∙ ap (option_map standing) z.1.0)
 
-  absent_by : (q : Path) (n : Name) → IsLoadedAt q x → standing_at (q ++ n ∷ []) x ≡ None → Parts p (q ++ n ∷ []) (behind_of p (q ++ n ∷ [])) → standing_at (q ++ n ∷ []) new ≡ None
+  absent_by : (q : Path) (n : Name) → IsKnownLoadedAt q x → standing_at (q ++ n ∷ []) x ≡ None → Parts p (q ++ n ∷ []) (behind_of p (q ++ n ∷ [])) → standing_at (q ++ n ∷ []) new ≡ None
   absent_by q n loaded is (inl apart) =
       edits_one p (with_child (Some d)) x y (q ++ n ∷ []) at ∙ ap (λ o. grafted o (λ r. standing_at r (with_child (Some d) y)) (standing_at (q ++ n ∷ []) x)) apart ∙ is
   absent_by q n loaded is (inr ([], (behind, split))) =
@@ -156,7 +156,7 @@ module _ (p : Path) (x y : Row) (d : Directory) (at : row_at p x ≡ Some y) (no
   pub grows_loaded : (clock : ℕ) → Grows x (stamped_along p clock new)
   grows_loaded clock = grows_on x new (stamped_along p clock new) grows_edit (grows_stamped p clock new)
 
-  pub loaded_there : (clock : ℕ) → IsLoadedAt p (stamped_along p clock new)
+  pub loaded_there : (clock : ℕ) → IsKnownLoadedAt p (stamped_along p clock new)
   loaded_there clock =
       stays_loaded new (stamped_along p clock new) p (grows_stamped p clock new)
       (known_at new p (with_child (Some d) y) (Dir true) (edits_there p (with_child (Some d)) x ∙ ap (option_map (with_child (Some d))) at)

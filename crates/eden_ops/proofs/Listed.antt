@@ -20,7 +20,7 @@ use Rattle.eden_model.specs.declared.reply.Reply.{Reply}
 use Rattle.eden_model.specs.declared.reply.Reply.TheVariants as say
 use Rattle.eden_model.specs.declared.world.World.{Ghosts}
 use Rattle.eden_model.specs.Named.{AreRising}
-use Rattle.eden_model.specs.Operations.{Meets, Refuses, At, Lists, IsRising, IsListing, kind_at, kind_of, is_after, beyond, page_of}
+use Rattle.eden_model.specs.Operations.{Meets, Refuses, At, Lists, IsRising, IsListing, kind_named, kind_of, is_after, beyond, page_of}
 use Rattle.eden_model.specs.Repository.{Repository, source_of, content_with}
 use Rattle.eden_model.specs.Trees.{Name, Path, Tree, Reach, Here, reach}
 use Rattle.eden_overlay.specs.declared.files.Files.{Ghosts as Files}
@@ -42,11 +42,11 @@ use Rattle.eden_ops.proofs.Walking.{walk_here}
 
 -- ---- what the table lists of a loaded directory is what it has
 
-kind_found : (n : Name) (es : List (Name × Row)) → kind_at (map kind_in es) n ≡ option_map (λ (z : Row). z.kind) (find_row n es)
+kind_found : (n : Name) (es : List (Name × Row)) → kind_named (map kind_in es) n ≡ option_map (λ (z : Row). z.kind) (find_row n es)
 kind_found n [] = refl
 kind_found n (e ∷ es) =
-    ap (λ (b : Bool). cond b (Some e.1.kind) (kind_at (map kind_in es) n)) (is_eq-slice_cmp n e.0)
-    ∙ elim (bytes_eq n e.0) as (λ b. cond b (Some e.1.kind) (kind_at (map kind_in es) n) ≡ option_map (λ (z : Row). z.kind) (cond b (Some e.1) (find_row n es))) [
+    ap (λ (b : Bool). cond b (Some e.1.kind) (kind_named (map kind_in es) n)) (is_eq-slice_cmp n e.0)
+    ∙ elim (bytes_eq n e.0) as (λ b. cond b (Some e.1.kind) (kind_named (map kind_in es) n) ≡ option_map (λ (z : Row). z.kind) (cond b (Some e.1) (find_row n es))) [
       | true ↦ refl
       | false ↦ kind_found n es
     ]

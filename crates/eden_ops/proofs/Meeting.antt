@@ -15,7 +15,7 @@ use Rattle.eden_coupling.proofs.CallerLemmas.{and_then_some}
 use Rattle.eden_inode.specs.declared.seen.Seen.{Seen}
 use Rattle.eden_inode.specs.Tables.{IsLast}
 use Rattle.eden_ops.specs.Attempts.{IsSeen}
-use Rattle.eden_ops.specs.Known.{known, place_on, IsLoadedAt}
+use Rattle.eden_ops.specs.Known.{known, place_on, IsKnownLoadedAt}
 use Rattle.eden_ops.proofs.Bare.{Bare, still_there, still_none}
 use Rattle.eden_ops.proofs.Walking.{known_dir, walk_unlisted, place_unlisted, walk_file, walk_loaded, walk_absent}
 
@@ -135,7 +135,7 @@ module _ (p : Path) (x : Row) (seen : Seen) (last : IsLast p x seen) where
           ap (place_on (known x)) c.is ∙ place_unlisted x (take k p) c.name c.rest last.row last.there (sym last.kind ∙ dir) (none_of (child_of last.row) seen.loaded last.loaded away)
 
     -- which stands behind those that are loaded
-    behind_by : (j : ℕ) → IsLoadedAt (take j p) x → (k < j) ⊎ (j ≤ k) → (j < k) ⊎ (k ≤ j) → j < k
+    behind_by : (j : ℕ) → IsKnownLoadedAt (take j p) x → (k < j) ⊎ (j ≤ k) → (j < k) ⊎ (k ≤ j) → j < k
     behind_by j loaded (inl more) o =
         let y = known_dir x (take j p) loaded in
         let z = shorter p (suc k) j x y.0 (omega arith) y.1.0 in
@@ -147,5 +147,5 @@ module _ (p : Path) (x : Row) (seen : Seen) (last : IsLast p x seen) where
         let row = same_Some y.0 last.row (sym y.1.0 ∙ ap (λ (i : ℕ). row_at (take i p) x) same ∙ last.there) in
         absurd (none-some y.1.1.0 (sym (none_of (child_of last.row) seen.loaded last.loaded away) ∙ ap child_of (sym row) ∙ y.1.1.1))
 
-    pub behind : (j : ℕ) → IsLoadedAt (take j p) x → j < k
+    pub behind : (j : ℕ) → IsKnownLoadedAt (take j p) x → j < k
     behind j loaded = behind_by j loaded (cases_lt k j) (cases_lt j k)

@@ -28,7 +28,7 @@ use Rattle.eden_ops.specs.declared.walk_end.Stop.TheVariants as stop
 use Rattle.eden_ops.specs.Attempts.{IsUnsaved, Wants, IsSeen, IsShown, Meets, MeetsShown, Lacks, shown_node}
 use Rattle.eden_ops.specs.Faults.{IsCaused, IsLawful}
 use Rattle.eden_ops.specs.Keeping.{Keeps}
-use Rattle.eden_ops.specs.Known.{known, place_on, IsLoadedAt}
+use Rattle.eden_ops.specs.Known.{known, place_on, IsKnownLoadedAt}
 use Rattle.eden_ops.specs.Listings.{HasNoEntries, HasEntries}
 use Rattle.eden_ops.specs.Renames.{MayLand, Lands, LandsShown}
 use Rattle.eden_ops.proofs.Answering.{no_entry}
@@ -154,5 +154,5 @@ module _ {W F : Type 0} (w : Ghosts W) (f : Files F W) (p : Path) (s t u : Table
   land_untold dir (stop.Faults e) h = tt
 
 -- the directories above a loaded one are loaded
-pub loaded_passes : (x : Row) (p : Path) → IsLoadedAt p x → walk (known x) p ≡ Passes
+pub loaded_passes : (x : Row) (p : Path) → IsKnownLoadedAt p x → walk (known x) p ≡ Passes
 loaded_passes x p is = let y = known_dir x p is in walk_here x p y.0 y.1.0

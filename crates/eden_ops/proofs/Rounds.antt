@@ -24,7 +24,7 @@ use Rattle.eden_ops.specs.declared.walk_end.Stop.TheVariants as stop
 use Rattle.eden_ops.specs.Attempts.{IsUnsaved, Wants, Ends, Meets, Lacks, walked_by}
 use Rattle.eden_ops.specs.Faults.{IsDamaged, WantsNumbers, IsCaused, IsLawful}
 use Rattle.eden_ops.specs.Keeping.{Keeps}
-use Rattle.eden_ops.specs.Known.{known, place_on, IsLoadedAt}
+use Rattle.eden_ops.specs.Known.{known, place_on, IsKnownLoadedAt}
 use Rattle.eden_ops.proofs.Bare.{walk_stamped}
 use Rattle.eden_ops.proofs.Meeting.{last_stamped, ends_unlisted, place_here, behind}
 use Rattle.eden_ops.proofs.Steps.{keeps_counts}
@@ -76,10 +76,10 @@ module _ {W F : Type 0} (w : Ghosts W) (f : Files F W) (p : Path) where
 
   -- the loaded directories that are counted stand above it
   pub counted_above : (t u : Table F) (seen : Seen) → u ≡ record t { root = stamped_along p t.clock t.root } → IsLast p t.root seen → seen.loaded ≡ false → seen.names < length p
-      → (n : ℕ) → ((k : ℕ) → k + 1 ≡ n → IsLoadedAt (take k p) t.root) → n ≤ seen.names
+      → (n : ℕ) → ((k : ℕ) → k + 1 ≡ n → IsKnownLoadedAt (take k p) t.root) → n ≤ seen.names
   counted_above t u seen is last away lt zero each = omega arith
   counted_above t u seen is last away lt (suc k) each =
-      let loaded : IsLoadedAt (take k p) t.root = each k (omega arith) in
+      let loaded : IsKnownLoadedAt (take k p) t.root = each k (omega arith) in
       let there = behind p t.root seen last away lt k loaded in
       omega (arith, there)
 

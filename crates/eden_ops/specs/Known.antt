@@ -24,8 +24,8 @@ abbrev pub known : Row → Tree
 known x = λ p. option_map known_node (row_at p x)
 
 -- .. and the directory at a path is loaded
-abbrev pub IsLoadedAt : Path → Row → Type 0
-IsLoadedAt p x = known x p ≡ Some (Dir true)
+abbrev pub IsKnownLoadedAt : Path → Row → Type 0
+IsKnownLoadedAt p x = known x p ≡ Some (Dir true)
 
 -- ---- where the checks end, on a tree
 

@@ -11,7 +11,7 @@ use Rattle.eden_tree.specs.Paths.{Standing, standing_at}
 use Rattle.eden_coupling.specs.NumberKept.{KeepsNumbers}
 use Rattle.eden_inode.specs.Tables.{Table, shows, shows_numbers}
 use Rattle.eden_ops.specs.Changes.{Leaves}
-use Rattle.eden_ops.specs.Known.{known, IsLoadedAt, place_on}
+use Rattle.eden_ops.specs.Known.{known, IsKnownLoadedAt, place_on}
 use Rattle.eden_ops.specs.Keeping.{Keeps}
 use Rattle.eden_ops.specs.Stamps.{StampsTowards}
 
@@ -26,7 +26,7 @@ pub record Stays (y v : Standing) : Type 0 where
 -- each entry is as it was, and a loaded directory has no other names
 pub record Grows (x z : Row) : Type 0 where
   pub there : (p : Path) (y : Standing) → standing_at p x ≡ Some y → (v : Standing) × ((standing_at p z ≡ Some v) × Stays y v)
-  pub absent : (p : Path) (n : Name) → IsLoadedAt p x → standing_at (p ++ n ∷ []) x ≡ None → standing_at (p ++ n ∷ []) z ≡ None
+  pub absent : (p : Path) (n : Name) → IsKnownLoadedAt p x → standing_at (p ++ n ∷ []) x ≡ None → standing_at (p ++ n ∷ []) z ≡ None
 
 module _ {W F : Type 0} (w : Ghosts W) (f : Files F W) where
   abbrev pub KeepsShown : Type 0
@@ -62,5 +62,5 @@ PlaceIsFront = (G : Tree) (p : Path) → (rest : Path) × (p ≡ place_on G p ++
 
 -- once the directory that was wanted is loaded, what is wanted next stands deeper: so a path of n names wants n + 1 objects at most
 abbrev pub NextIsDeeper : Type 0
-NextIsDeeper = (x z : Row) (p : Path) → Grows x z → walk (known x) p ≡ Unlisted → IsLoadedAt (place_on (known x) p) z
+NextIsDeeper = (x z : Row) (p : Path) → Grows x z → walk (known x) p ≡ Unlisted → IsKnownLoadedAt (place_on (known x) p) z
     → length (place_on (known x) p) < length (place_on (known z) p)

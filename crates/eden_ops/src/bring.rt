@@ -10,7 +10,7 @@ ghost use Rattle.eden_ops.specs.Attempts.{Lacks};
 ghost use Rattle.eden_ops.specs.Faults.{IsCaused};
 ghost use Rattle.eden_cache.specs.Stock.{FindsTheSame, object_at};
 ghost use Rattle.eden_ops.specs.Keeping.{Keeps};
-ghost use Rattle.eden_ops.specs.Known.{IsLoadedAt};
+ghost use Rattle.eden_ops.specs.Known.{IsKnownLoadedAt};
 
 use crate::walk_end::Stop;
 use eden_cache::{Stock, cache_laws};
@@ -46,7 +46,7 @@ fn bring_stored<A: Allocator + Clone, W: World, F: Files<W>>(
     path: &[Name],
 ) -> Result<(), Fault>
     requires none { HasNoTree W.honest (F.stored inodes.old.files) path.now inodes.old.root }
-    ensures ok { OnOk result (IsLoadedAt path.now inodes.new.root) }
+    ensures ok { OnOk result (IsKnownLoadedAt path.now inodes.new.root) }
     ensures err { OnErr result (inodes.new.root ≡ inodes.old.root) }
     ensures caused { IfErr result (IsCaused W.World F.Files path.now inodes.old inodes.new) }
     ensures keeps { Keeps W.World F.Files (path.now ∷ []) inodes.old inodes.new }
@@ -63,7 +63,7 @@ fn bring_object<A: Allocator + Clone, W: World, F: Files<W>>(
     entries: &[TreeEntry],
 ) -> Result<(), Fault>
     requires tree { HasTree W.repository W.honest (F.stored inodes.old.files) path.now inodes.old.root entries.now }
-    ensures ok { OnOk result (IsLoadedAt path.now inodes.new.root) }
+    ensures ok { OnOk result (IsKnownLoadedAt path.now inodes.new.root) }
     ensures err { OnErr result (inodes.new.root ≡ inodes.old.root) }
     ensures caused { IfErr result (IsCaused W.World F.Files path.now inodes.old inodes.new) }
     ensures keeps { Keeps W.World F.Files (path.now ∷ []) inodes.old inodes.new }
@@ -81,7 +81,7 @@ fn bring_cached<A: Allocator + Clone, W: World, F: Files<W>, C: Allocator + Clon
 ) -> Result<(), Stop>
     requires at { IsAt path.now inodes.old.root (origins.Object id) }
     requires unsaved { LacksNumbers W.honest (F.stored inodes.old.files) path.now inodes.old.root }
-    ensures ok { OnOk result (IsLoadedAt path.now inodes.new.root) }
+    ensures ok { OnOk result (IsKnownLoadedAt path.now inodes.new.root) }
     ensures err { OnErr result (inodes.new.root ≡ inodes.old.root) }
     ensures lacks { IfErr result (Lacks W.World F.Files path.now inodes.old inodes.new cache.new) }
     ensures keeps { Keeps W.World F.Files (path.now ∷ []) inodes.old inodes.new }
@@ -109,7 +109,7 @@ fn bring_tree<A: Allocator + Clone, W: World, F: Files<W>, C: Allocator + Clone>
     id: Id,
 ) -> Result<(), Stop>
     requires at { IsAt path.now inodes.old.root (origins.Object id) }
-    ensures ok { OnOk result (IsLoadedAt path.now inodes.new.root) }
+    ensures ok { OnOk result (IsKnownLoadedAt path.now inodes.new.root) }
     ensures err { OnErr result (inodes.new.root ≡ inodes.old.root) }
     ensures lacks { IfErr result (Lacks W.World F.Files path.now inodes.old inodes.new cache.new) }
     ensures keeps { Keeps W.World F.Files (path.now ∷ []) inodes.old inodes.new }
@@ -132,7 +132,7 @@ pub(crate) fn bring<A: Allocator + Clone, W: World, F: Files<W>, C: Allocator + 
     origin: Origin,
 ) -> Result<(), Stop>
     requires at { IsAt path.now inodes.old.root origin }
-    ensures ok { OnOk result (IsLoadedAt path.now inodes.new.root) }
+    ensures ok { OnOk result (IsKnownLoadedAt path.now inodes.new.root) }
     ensures err { OnErr result (inodes.new.root ≡ inodes.old.root) }
     ensures lacks { IfErr result (Lacks W.World F.Files path.now inodes.old inodes.new cache.new) }
     ensures keeps { Keeps W.World F.Files (path.now ∷ []) inodes.old inodes.new }

@@ -5,7 +5,7 @@ ghost use Rattle.eden_inode.specs.Tables.{shows};
 ghost use Rattle.eden_ops.specs.Attempts.{IsSeen, Lacks};
 ghost use Rattle.eden_cache.specs.Stock.{FindsTheSame};
 ghost use Rattle.eden_ops.specs.Keeping.{Keeps};
-ghost use Rattle.eden_ops.specs.Known.{IsLoadedAt};
+ghost use Rattle.eden_ops.specs.Known.{IsKnownLoadedAt};
 
 use crate::bring::bring;
 use crate::laws::keeps_laws;
@@ -26,7 +26,7 @@ pub(crate) fn bring_seen<A: Allocator + Clone, W: World, F: Files<W>, C: Allocat
 ) -> Result<(), Stop>
     requires seen { IsSeen path.now inodes.old.root seen }
     requires dir { (seen.loaded ≡ true) ⊎ (seen.kind ≡ kind.Dir) }
-    ensures ok { OnOk result (IsLoadedAt path.now inodes.new.root) }
+    ensures ok { OnOk result (IsKnownLoadedAt path.now inodes.new.root) }
     ensures away { OnErr result (seen.loaded ≡ false) }
     ensures still { OnErr result (inodes.new.root ≡ inodes.old.root) }
     ensures lacks { IfErr result (Lacks W.World F.Files path.now inodes.old inodes.new cache.new) }

@@ -3,7 +3,7 @@ ghost use Rattle.std.specs.Prelude.{◌≡◌, true, MatchBool};
 ghost use Rattle.eden_model.specs.declared.node.Node.TheVariants.{Dir};
 ghost use Rattle.eden_model.specs.Trees.{Here, reach};
 ghost use Rattle.eden_inode.specs.Tables.{shows};
-ghost use Rattle.eden_ops.specs.Known.{IsLoadedAt};
+ghost use Rattle.eden_ops.specs.Known.{IsKnownLoadedAt};
 ghost use Rattle.eden_ops.specs.Listings.{HasNoEntries, HasEntries};
 
 use eden_coupling::shown_laws;
@@ -17,7 +17,7 @@ pub(crate) fn is_empty<A: Allocator + Clone, W: World, F: Files<W>>(
     inodes: &Inodes<A, W, F>,
     path: &Path,
 ) -> bool
-    requires { IsLoadedAt path.now inodes.now.root }
+    requires { IsKnownLoadedAt path.now inodes.now.root }
     ensures entries { W.honest
         → MatchBool result (HasNoEntries (shows W.World F.Files inodes.now) path.now)
         (HasEntries (shows W.World F.Files inodes.now) path.now) }

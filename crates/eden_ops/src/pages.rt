@@ -1,7 +1,7 @@
 //! Pages of loaded directories.
 ghost use Rattle.std.specs.Prelude.{◌≡◌, ◌≤◌, ◌-◌, length, take, drop, filter, IfOk};
 ghost use Rattle.eden_model.specs.Operations.{is_after, page_of};
-ghost use Rattle.eden_ops.specs.Known.{IsLoadedAt};
+ghost use Rattle.eden_ops.specs.Known.{IsKnownLoadedAt};
 ghost use Rattle.eden_ops.specs.Listings.{kinds_in, IsPage};
 
 use eden_coupling::shown_laws;
@@ -68,7 +68,7 @@ pub(crate) fn page_at<A: Allocator + Clone, W: World, F: Files<W>>(
     after: &Option<Name>,
     limit: u64,
 ) -> Result<Reply, AllocError>
-    requires { IsLoadedAt path.now inodes.now.root }
+    requires { IsKnownLoadedAt path.now inodes.now.root }
     ensures { IfOk result (IsPage W.World F.Files path.now inodes.now after.now limit) }
 {
     shown_laws();

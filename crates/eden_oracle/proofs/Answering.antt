@@ -14,7 +14,7 @@ use Rattle.eden_model.specs.declared.request.Request.{Request}
 use Rattle.eden_model.specs.declared.request.Request.TheVariants as ask
 use Rattle.eden_model.specs.declared.reply.Reply.{Reply}
 use Rattle.eden_model.specs.declared.reply.Reply.TheVariants as say
-use Rattle.eden_oracle.specs.Changes.{Gives, Answers, AnswersHere, changed, Tells}
+use Rattle.eden_oracle.specs.Changes.{Gives, Answers, AnswersHere, changed_tree, Tells}
 use Rattle.eden_model.specs.Limits.{most_data}
 use Rattle.eden_model.specs.Paths.{path_eq, is_root}
 use Rattle.eden_model.specs.Trees.{Path, Tree, Reach, Silent, Here, reach}
@@ -47,7 +47,7 @@ past_test_ok (Err x) P F next b e is g = g
 pub refused_gives : (P : Reply → Type 0) (F : Tree) (q : Request) (e : Errno) (o : Answer) → o ≡ Some (say.Err e, change.Keep) → P (say.Err e) → Gives P F (after F q) o
 refused_gives P F q e o is p = subst (Gives P F (after F q)) (sym is) (p, refl)
 
-pub gives_by : (P : Reply → Type 0) (F : Tree) (next : Reply → Tree) (o : Answer) (r : Option Reply) → option_map (λ a. a.0) o ≡ r → IfSome o (λ a. changed F a.1 ≡ next a.0) → Tells P r
+pub gives_by : (P : Reply → Type 0) (F : Tree) (next : Reply → Tree) (o : Answer) (r : Option Reply) → option_map (λ a. a.0) o ≡ r → IfSome o (λ a. changed_tree F a.1 ≡ next a.0) → Tells P r
     → Gives P F next o
 gives_by P F next None r e c t = subst (Tells P) (sym e) t
 gives_by P F next (Some a) r e c t = (subst (Tells P) (sym e) t, c)

@@ -18,7 +18,7 @@ use Rattle.eden_model.specs.Limits.{most_file, most_data, most_target, most_entr
 use Rattle.eden_model.specs.Laws.{without_number, OneReply}
 use Rattle.eden_model.specs.Numbers.{Numbers, StatNumber, Allows, AllowsStat, number_by, stat_number}
 use Rattle.eden_oracle.specs.declared.change.Change.{Change}
-use Rattle.eden_oracle.specs.Changes.{Answers, changed}
+use Rattle.eden_oracle.specs.Changes.{Answers, changed_tree}
 use Rattle.eden_oracle.specs.Numbers.{numbers_of}
 use Rattle.eden_oracle.specs.Rows.{tree_of}
 use Rattle.eden_oracle.specs.Tables.{Table, May}
@@ -244,12 +244,12 @@ after_without F q (say.Fault f) = refl
 
 -- what is answered, with another number in the reply
 pub may_go : (F : Tree) (q : Request) (told : Reply) (change : Change) → Answers F q (Some (told, change)) → (r : Reply) → without_number told ≡ without_number r
-    → Replies F q r × (changed F change ≡ after F q r)
+    → Replies F q r × (changed_tree F change ≡ after F q r)
 may_go F q told change a r e = (any_number F q told r e a.0, a.1 ∙ sym (after_without F q told) ∙ ap (after F q) e ∙ after_without F q r)
 
 -- .. where the table gives both
 pub goes_as : (one : OneReply) (F : Tree) (q : Request) (told : Reply) (change : Change) → Answers F q (Some (told, change)) → (r : Reply) → Replies F q r
-    → changed F change ≡ after F q r
+    → changed_tree F change ≡ after F q r
 goes_as one F q told change a r p = (may_go F q told change a r (one F q told r a.0 p)).1
 
 -- ---- of a path that no number is left for

@@ -13,15 +13,15 @@ use Rattle.eden_model.specs.Trees.{Path, Tree, reach, node_at}
 use Rattle.eden_oracle.specs.Rows.{tree_of}
 use Rattle.eden_model.specs.Operations.{Replies, Meets, Says, Adds, Moves, Replaces, after, done, put, move}
 
-abbrev pub changed : Tree → Change → Tree
-changed F change.Keep = F
-changed F (change.Put p o) = put F p.now o
-changed F (change.Move from to) = move F from.now to.now
+abbrev pub changed_tree : Tree → Change → Tree
+changed_tree F change.Keep = F
+changed_tree F (change.Put p o) = put F p.now o
+changed_tree F (change.Move from to) = move F from.now to.now
 
 -- a reply of which the facts hold, with the change to the tree after it; or none, where they hold of none
 abbrev pub Gives : (Reply → Type 0) → Tree → (Reply → Tree) → Option (Reply × Change) → Type 0
 Gives P F next None = (r : Reply) → ¬ P r
-Gives P F next (Some a) = P a.0 × (changed F a.1 ≡ next a.0)
+Gives P F next (Some a) = P a.0 × (changed_tree F a.1 ≡ next a.0)
 
 abbrev pub Answers : Tree → Request → Option (Reply × Change) → Type 0
 Answers F q = Gives (Replies F q) F (after F q)
@@ -36,7 +36,7 @@ AddsNode F p n o = (q : Request) → done F q ≡ put F p (Some n) → Gives (Ad
 
 -- the path taken away, in each tree and by each request whose tree has nothing there
 abbrev pub TakesAway : Path → Option (Reply × Change) → Type 0
-TakesAway p o = (F : Tree) (q : Request) → done F q ≡ put F p None → IfSome o (λ a. changed F a.1 ≡ after F q a.0)
+TakesAway p o = (F : Tree) (q : Request) → done F q ≡ put F p None → IfSome o (λ a. changed_tree F a.1 ≡ after F q a.0)
 
 -- a rename of `n`, which stands at `from`
 abbrev pub Renames : Tree → Path → Path → Node → Option (Reply × Change) → Type 0

@@ -1,6 +1,6 @@
 ghost use Rattle.std.specs.Prelude.{◌≡◌, ◌≤◌, IfOk, OnOk, OnErr, None, Some, true, false, if◌then◌else◌};
 ghost use Rattle.std.specs.Vec.{vec_len, vec_capacity};
-ghost use Rattle.eden_oracle.specs.Changes.{MovesRow, changed};
+ghost use Rattle.eden_oracle.specs.Changes.{MovesRow, changed_tree};
 ghost use Rattle.eden_model.specs.Operations.{move, put};
 ghost use Rattle.eden_model.specs.Paths.{path_eq};
 ghost use Rattle.eden_oracle.specs.Rows.{tree_of};
@@ -102,7 +102,7 @@ pub(crate) fn moved<V: Copied>(
 
 /// Makes the change.
 pub(crate) fn make(alloc: Global, rows: &mut Vec<Row>, change: Change<'_>) -> Result<(), AllocError>
-    ensures ok { OnOk result (tree_of rows.new.items ≡ changed (tree_of rows.old.items) change.entry) }
+    ensures ok { OnOk result (tree_of rows.new.items ≡ changed_tree (tree_of rows.old.items) change.entry) }
     ensures err { OnErr result (rows.new.items ≡ rows.old.items) }
 {
     match change {

@@ -1,7 +1,7 @@
 ghost use Rattle.std.specs.Prelude.{◌≡◌, IfOk, OnOk, ℕ, List, [], ◌∷◌, ◌++◌, Some, None, if◌then◌else◌};
 ghost use Rattle.std.specs.Option.{option_map, option_or};
 ghost use Rattle.eden_oracle.specs.Changes.{Answers, Tells};
-ghost use Rattle.eden_model.specs.Operations.{Lists, ListsSome, kind_of, kind_at};
+ghost use Rattle.eden_model.specs.Operations.{Lists, ListsSome, kind_of, kind_named};
 ghost use Rattle.eden_model.specs.Paths.{path_eq};
 ghost use Rattle.eden_oracle.specs.Rows.{tree_of};
 ghost use Rattle.eden_model.specs.declared.request.Request.TheVariants as ask;
@@ -22,7 +22,7 @@ fn note_row(
     node: &Node,
 ) -> Result<(), AllocError>
     ensures { OnOk result
-        ((n : List ℕ) → kind_at all.new n ≡ option_or (kind_at all.old n)
+        ((n : List ℕ) → kind_named all.new n ≡ option_or (kind_named all.old n)
         (if path_eq (dir.now ++ n ∷ []) row.now then Some (kind_of node.now) else None)) }
 {
     match child(dir, row.as_slice()) {
@@ -37,7 +37,7 @@ fn note_row(
 /// All children of a directory.
 fn children(alloc: Global, rows: &[Row], dir: &[Name]) -> Result<Listing, AllocError>
     ensures { IfOk result
-        (λ all. (n : List ℕ) → kind_at all n ≡ option_map kind_of (tree_of rows.now (dir.now ++ n ∷ []))) }
+        (λ all. (n : List ℕ) → kind_named all n ≡ option_map kind_of (tree_of rows.now (dir.now ++ n ∷ []))) }
 {
     let mut all = Listing::new(alloc);
     for (row, node) in rows {

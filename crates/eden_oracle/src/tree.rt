@@ -2,7 +2,7 @@ ghost use Rattle.std.specs.Prelude.{◌≡◌, ◌↔◌, IfOk, IfSome, IfNone, 
 ghost use Rattle.eden_model.specs.Limits.{number_least};
 ghost use Rattle.eden_model.specs.Numbers.{opening_numbers};
 ghost use Rattle.eden_model.specs.Operations.{Replies, after};
-ghost use Rattle.eden_oracle.specs.Changes.{Answers, changed};
+ghost use Rattle.eden_oracle.specs.Changes.{Answers, changed_tree};
 ghost use Rattle.eden_oracle.specs.Numbers.{numbers_of, root_alone};
 ghost use Rattle.eden_oracle.specs.Rows.{AreTree, tree_of};
 ghost use Rattle.eden_oracle.specs.Tables.{Goes, Judges, May, Steps};
@@ -132,7 +132,7 @@ impl WholeTree {
         change: Change<'_>,
     ) -> Result<(), AllocError>
         requires may { May self.now request.now reply.now }
-        requires change { changed (tree_of self.now.rows) change
+        requires change { changed_tree (tree_of self.now.rows) change
             ≡ after (tree_of self.now.rows) request.now reply.now }
         ensures ok { OnOk result (Goes self.old self.new request.now reply.now) }
         ensures err { OnErr result (self.new ≡ self.old) }

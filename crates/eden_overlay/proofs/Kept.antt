@@ -14,7 +14,7 @@ use Rattle.eden_overlay.specs.declared.files.FilesFault.{FilesFault}
 use Rattle.eden_overlay.specs.Files.{Stored, with_file}
 use Rattle.eden_overlay.proofs.Puts.{put_apart}
 use Rattle.eden_overlay.specs.Held.{HoldsContent}
-use Rattle.eden_overlay.specs.Keeping.{AreKeptOf, Fits, HasRoom, IsEndOf, IsLast, IsLeft, kept_bytes, kept_content, kept_of, of_others}
+use Rattle.eden_overlay.specs.Keeping.{AreKeptOf, Fits, HasRoomBeside, IsEndOf, IsLast, IsLeft, kept_bytes, kept_content, kept_of, of_others}
 
 -- the contents of other files, where at most that one changed
 pub others_kept : (F G : Stored) (k : ℕ) → ((q : ℕ) → k ≢ q → G q ≡ F q) → (kept : List Kept) → AreKeptOf F kept → AreKeptOf G (of_others k kept)
@@ -149,12 +149,12 @@ same_end first second kept one two long =
     sym (drop_at one.0 first (length one.0) refl) ∙ ap (drop (length one.0)) (sym one.1) ∙ ap (λ n. drop n kept) gone ∙ ap (drop (length two.0)) two.1 ∙ drop_at two.0 second (length two.0) refl
 
 -- where an end has no room, none that has is longer than the one after it
-pub none_before : (most long i : ℕ) (rest kept : List Kept) → rest ≡ drop i kept → ¬ HasRoom most long rest
-    → ((more : List Kept) → IsEndOf more kept → HasRoom most long more → length more ≤ length rest)
-    → (more : List Kept) → IsEndOf more kept → HasRoom most long more → length more ≤ length (drop 1 rest)
+pub none_before : (most long i : ℕ) (rest kept : List Kept) → rest ≡ drop i kept → ¬ HasRoomBeside most long rest
+    → ((more : List Kept) → IsEndOf more kept → HasRoomBeside most long more → length more ≤ length rest)
+    → (more : List Kept) → IsEndOf more kept → HasRoomBeside most long more → length more ≤ length (drop 1 rest)
 none_before most long i rest kept is none before more end room =
     elim (length more == length rest) as (λ b. (length more == length rest) ≡ b → length more ≤ length (drop 1 rest)) [
-      | true ↦ λ same. absurd (none (subst (HasRoom most long) (same_end more rest kept end (behind i rest kept is) (eqb-true (length more) (length rest) same)) room))
+      | true ↦ λ same. absurd (none (subst (HasRoomBeside most long) (same_end more rest kept end (behind i rest kept is) (eqb-true (length more) (length rest) same)) room))
       | false ↦ λ apart.
           (let other = eqb-false (length more) (length rest) apart in
           let most = before more end room in
@@ -173,7 +173,7 @@ unfolding kept_bytes
 bytes_pushed [] x = omega (arith)
 bytes_pushed (y ∷ rest) x = let more = bytes_pushed rest x in omega (arith, more)
 
-pub pushed_fits : (most long : ℕ) (rest : List Kept) (x : Kept) → long ≡ length x.content → (rest ≡ []) ⊎ HasRoom most long rest → Fits most (rest ++ x ∷ [])
+pub pushed_fits : (most long : ℕ) (rest : List Kept) (x : Kept) → long ≡ length x.content → (rest ≡ []) ⊎ HasRoomBeside most long rest → Fits most (rest ++ x ∷ [])
 pushed_fits most long rest x is (inl none) =
     let one = length-append rest (x ∷ []) in let empty = ap (λ l. length l) none in
     (omega (arith, one, empty), inr (omega (arith, one, empty)))

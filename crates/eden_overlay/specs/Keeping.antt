@@ -46,14 +46,14 @@ abbrev pub Fits : ℕ → List Kept → Type 0
 Fits most kept = (length kept ≤ 8) × ((kept_bytes kept ≤ most) ⊎ (length kept ≤ 1))
 
 -- a content of that length has room beside them
-abbrev pub HasRoom : ℕ → ℕ → List Kept → Type 0
-HasRoom most long kept = (length kept < 8) × (kept_bytes kept + long ≤ most)
+abbrev pub HasRoomBeside : ℕ → ℕ → List Kept → Type 0
+HasRoomBeside most long kept = (length kept < 8) × (kept_bytes kept + long ≤ most)
 
 -- What is left of them once there is room for a content of that length: no more than has to go went, those in front first.
 pub record IsLeft (most long : ℕ) (rest kept : List Kept) : Type 0 where
   pub end : IsEndOf rest kept
-  pub room : (rest ≡ []) ⊎ HasRoom most long rest
-  pub no_more : (more : List Kept) → IsEndOf more kept → HasRoom most long more → length more ≤ length rest
+  pub room : (rest ≡ []) ⊎ HasRoomBeside most long rest
+  pub no_more : (more : List Kept) → IsEndOf more kept → HasRoomBeside most long more → length more ≤ length rest
 
 -- that one is the last of them now, behind what is left of the others
 abbrev pub IsLast : ℕ → Kept → List Kept → List Kept → Type 0

@@ -2,7 +2,7 @@
 
 ghost use Rattle.std.specs.Prelude.{◌≡◌, ◌≤◌, ◌^◌, ◌-◌, ℕ, length, min, OnOk, OnErr, IsTrue, true, false};
 ghost use Rattle.std.specs.Prelude.{[], drop, position};
-ghost use Rattle.eden_overlay.specs.Keeping.{Fits, HasRoom, IsLast, IsLeft, is_of, kept_bytes, kept_content};
+ghost use Rattle.eden_overlay.specs.Keeping.{Fits, HasRoomBeside, IsLast, IsLeft, is_of, kept_bytes, kept_content};
 ghost use Rattle.eden_overlay.specs.Keeping.{AddsOne, is_one_of, kept_length, of_others, other_numbers};
 
 use crate::content::Content;
@@ -158,8 +158,8 @@ impl Recent {
 
     // Whether a content of that length has room beside what is kept.
     fn has_room(&self, len: u64) -> bool
-        ensures room { result ≡ true → HasRoom self.now.most len self.now.kept.items }
-        ensures none { result ≡ false → ¬ HasRoom self.now.most len self.now.kept.items }
+        ensures room { result ≡ true → HasRoomBeside self.now.most len self.now.kept.items }
+        ensures none { result ≡ false → ¬ HasRoomBeside self.now.most len self.now.kept.items }
     {
         let Some(room) = self.most.checked_sub(len) else {
             return false;

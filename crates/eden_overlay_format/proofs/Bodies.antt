@@ -12,32 +12,32 @@ use Rattle.eden_model.specs.Operations.{name_lt}
 use Rattle.eden_overlay_format.specs.declared.directory_body.RowFacts.{RowFacts}
 use Rattle.eden_overlay_format.specs.declared.stored_entry.StoredEntry.{StoredEntry}
 use Rattle.eden_overlay_format.specs.Directory.{IsStorable, row, directory_body}
-use Rattle.eden_overlay_format.specs.Listing.{entries_read, entries_under_way, AreRowsOf, IsBodyOf}
+use Rattle.eden_overlay_format.specs.Listing.{entries_read, entries_under_way, AreRowsOf, IsListingBody}
 use Rattle.eden_overlay_format.specs.Changing.{entry_as, put_front, entries_with, entries_before, entries_behind, IsSplit}
 use Rattle.eden_overlay_format.proofs.Listed.{read_again}
 
-rows_of : (count : ℕ) (file : List ℕ) (b : IsBodyOf count file) → AreRowsOf b.entries count (drop 68 file)
+rows_of : (count : ℕ) (file : List ℕ) (b : IsListingBody count file) → AreRowsOf b.entries count (drop 68 file)
 rows_of count file b = record { each = b.each; counted = b.counted; written = ap (drop 68) b.body }
 
 -- what stands there is what contracts see
-pub seen : (count : ℕ) (file : List ℕ) (b : IsBodyOf count file) → entries_under_way count file ≡ b.entries
+pub seen : (count : ℕ) (file : List ℕ) (b : IsListingBody count file) → entries_under_way count file ≡ b.entries
 unfolding entries_under_way
 seen count file b = read_again b.entries count (drop 68 file) (rows_of count file b)
 
-pub stored : (count : ℕ) (file : List ℕ) → IsBodyOf count file → drop 64 file ≡ directory_body (entries_under_way count file)
+pub stored : (count : ℕ) (file : List ℕ) → IsListingBody count file → drop 64 file ≡ directory_body (entries_under_way count file)
 stored count file b = ap (drop 64) b.body ∙ ap directory_body (sym (seen count file b))
 
-pub rows_read : (count : ℕ) (file : List ℕ) (b : IsBodyOf count file) (rows : List ℕ) → rows ≡ drop 68 file → AreRowsOf (entries_read count rows) count rows
+pub rows_read : (count : ℕ) (file : List ℕ) (b : IsListingBody count file) (rows : List ℕ) → rows ≡ drop 68 file → AreRowsOf (entries_read count rows) count rows
 rows_read count file b rows is =
     let r : AreRowsOf b.entries count rows = subst (AreRowsOf b.entries count) (sym is) (rows_of count file b) in
     subst (λ (es : List StoredEntry). AreRowsOf es count rows) (sym (read_again b.entries count rows r)) r
 
-pub long : (count : ℕ) (file : List ℕ) → IsBodyOf count file → 68 ≤ length file
+pub long : (count : ℕ) (file : List ℕ) → IsListingBody count file → 68 ≤ length file
 long count file b = omega (arith, ap length b.body)
 
 -- a file that holds the body of these entries
 module _ (es : List StoredEntry) (count : ℕ) (file : List ℕ) (each : AllByRecursion IsStorable es) (counted : count ≡ length es) (is : file ≡ replicate 64 0 ++ directory_body es) where
-  pub made : IsBodyOf count file
+  pub made : IsListingBody count file
   made = record { entries = es; each = each; counted = sym counted; body = is }
 
   pub made_seen : entries_under_way count file ≡ es
@@ -93,7 +93,7 @@ storable name None h = h
 storable name (Some f) h = h
 
 -- the new file: the count, the rows before, the new row, the rows behind
-module _ (count : ℕ) (file : List ℕ) (b : IsBodyOf count file) (name : Name) (facts : Option RowFacts) (good : IfSome facts (λ f. IsStorable (entry_as name f)))
+module _ (count : ℕ) (file : List ℕ) (b : IsListingBody count file) (name : Name) (facts : Option RowFacts) (good : IfSome facts (λ f. IsStorable (entry_as name f)))
     (rows before behind : List ℕ) (others : ℕ) (is_rows : rows ≡ drop 68 file) (s : IsSplit name (entries_read count rows) before behind others)
     (total : ℕ) (counted : total ≡ others + length (put_front (option_map (entry_as name) facts) [])) (new : List ℕ)
     (written : new ≡ replicate 64 0 ++ (to_be_bytes w32 total ++ (before ++ (flat_map row (put_front (option_map (entry_as name) facts) []) ++ behind)))) where
@@ -134,7 +134,7 @@ module _ (count : ℕ) (file : List ℕ) (b : IsBodyOf count file) (name : Name)
       written ∙ ap (λ (n : ℕ). replicate 64 0 ++ (to_be_bytes w32 n ++ (before ++ (flat_map row (put_front o []) ++ behind)))) all_counted
       ∙ ap (λ (rows : List ℕ). replicate 64 0 ++ (to_be_bytes w32 (length es) ++ rows)) all_rows
 
-  pub changed : IsBodyOf total new
+  pub changed : IsListingBody total new
   changed = made es total new each all_counted whole
 
   pub changed_seen : entries_under_way total new ≡ entries_with name o (entries_under_way count file)

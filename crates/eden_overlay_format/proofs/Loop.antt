@@ -4,7 +4,7 @@ use Rattle.std.proofs.lemmas.List.{append-nil}
 use Rattle.eden_overlay_format.specs.declared.refusal.DecodeFault.{DecodeFault}
 use Rattle.eden_overlay_format.specs.declared.refusal.DecodeFault.TheVariants as fault
 use Rattle.eden_overlay_format.specs.declared.stored_entry.StoredEntry.{StoredEntry}
-use Rattle.eden_overlay_format.specs.Reading.{◌>>=◌, Field, Fails, row_at, rows_at}
+use Rattle.eden_overlay_format.specs.Reading.{◌>>=◌, Field, Fails, stored_row_at, rows_at}
 
 -- what was read before, and what is still read
 abbrev pub with_front : List StoredEntry → Field (List StoredEntry) → Field (List StoredEntry)
@@ -15,19 +15,19 @@ regroup front e (Some x) = ap (λ (es : List StoredEntry). Some (es, x.1)) (simp
 regroup front e None = refl
 
 module _ (front : List StoredEntry) (count i : ℕ) (bytes : List ℕ) (total : Field (List StoredEntry)) (so_far : with_front front (rows_at (count - i) bytes) ≡ total) where
-  pub goes_on : (e : StoredEntry) (after : List ℕ) → i < count → row_at bytes ≡ Some (e, after) → with_front (front ++ e ∷ []) (rows_at (count - (i + 1)) after) ≡ total
+  pub goes_on : (e : StoredEntry) (after : List ℕ) → i < count → stored_row_at bytes ≡ Some (e, after) → with_front (front ++ e ∷ []) (rows_at (count - (i + 1)) after) ≡ total
   unfolding rows_at
   goes_on e after lt h =
       let k : count - i ≡ suc (count - (i + 1)) = omega arith in
       let one : with_front front (rows_at (count - i) bytes) ≡ with_front (front ++ e ∷ []) (rows_at (count - (i + 1)) after) = rw (k, h) (regroup front e (rows_at (count - (i + 1)) after)) in
       sym one ∙ so_far
 
-  pub ends : (f : DecodeFault) → i < count → Fails f (row_at bytes) → Fails f total
+  pub ends : (f : DecodeFault) → i < count → Fails f (stored_row_at bytes) → Fails f total
   unfolding rows_at
   ends fault.Memory lt h = tt
   ends (fault.Refused r) lt h =
       let k : count - i ≡ suc (count - (i + 1)) = omega arith in
-      let row : row_at bytes ≡ None = h.1 in
+      let row : stored_row_at bytes ≡ None = h.1 in
       let one : with_front front (rows_at (count - i) bytes) ≡ None = rw (k, row) refl in
       (h.0, sym so_far ∙ one)
 

@@ -18,7 +18,7 @@ use Rattle.eden_model.specs.Numbers.{IsNumber}
 use Rattle.eden_model.specs.Shown.{if_dir}
 use Rattle.eden_overlay_format.specs.declared.stored_entry.StoredEntry.{StoredEntry}
 use Rattle.eden_overlay_format.specs.Directory.{kind_code, origin_code, origin_bytes, row, directory_body, HasOrigin, IsStorable}
-use Rattle.eden_overlay_format.specs.Reading.{byte_at, bytes_at, number_at, kind_of_code, kind_at, entry_number_at, origin_at, name_at, row_at, rows_at, count_at, rows_of}
+use Rattle.eden_overlay_format.specs.Reading.{byte_at, bytes_at, number_at, kind_of_code, kind_at, entry_number_at, origin_at, name_at, stored_row_at, rows_at, count_at, rows_of}
 use Rattle.eden_overlay_format.proofs.Agreement.{IsRead, Agrees, is_read, step, both, bytes_agree, numbers32, numbers64}
 
 -- ---- the kind
@@ -120,8 +120,8 @@ byte_only : (bytes : List ℕ) (x : ℕ × List ℕ) → byte_at bytes ≡ Some 
 byte_only [] x e = absurd cc
 byte_only (b ∷ rest) x e = ap (λ (y : ℕ × List ℕ). y.0 ∷ y.1) (same_Some (b, rest) x e)
 
-row_only : (bytes : List ℕ) (x : StoredEntry × List ℕ) → row_at bytes ≡ Some x → IsRead row IsStorable bytes x
-unfolding row_at
+row_only : (bytes : List ℕ) (x : StoredEntry × List ℕ) → stored_row_at bytes ≡ Some x → IsRead row IsStorable bytes x
+unfolding stored_row_at
 row_only bytes x e =
     option_and_then_some _ (kind_at bytes) x e (λ k k_there e1.
     option_and_then_some _ (byte_at k.1) x e1 (λ code code_there e2.
@@ -138,8 +138,8 @@ row_only bytes x e =
     let good : IsStorable entry = record { name = fifth.good; origin = fourth.good.1; least = third.good.0; most = third.good.1 } in
     is_read row IsStorable bytes (entry, name.1) x (record { front = front; good = good }) e5)))))
 
-row_again : (e : StoredEntry) (rest : List ℕ) → IsStorable e → row_at (row e ++ rest) ≡ Some (e, rest)
-unfolding row_at
+row_again : (e : StoredEntry) (rest : List ℕ) → IsStorable e → stored_row_at (row e ++ rest) ≡ Some (e, rest)
+unfolding stored_row_at
 row_again e rest h =
     let text : List ℕ = name_text e.name ++ rest in
     let tail : List ℕ = to_be_bytes w64 e.number ++ (origin_bytes e.origin ++ text) in
@@ -148,7 +148,7 @@ row_again e rest h =
     let n = entry_numbers.again e.number (origin_bytes e.origin ++ text) (h.least, h.most) in
     let o = origin_again e.kind e.origin text h.origin in
     let name = name_again e.name rest h.name in
-    ap row_at regrouped ∙ rw (k, n, o, name) refl
+    ap stored_row_at regrouped ∙ rw (k, n, o, name) refl
 
 -- ---- rows
 
@@ -159,7 +159,7 @@ rows_only : (n : ℕ) (bytes : List ℕ) (x : List StoredEntry × List ℕ) → 
 unfolding rows_at
 rows_only zero bytes x e = is_read (flat_map row) (AreRows 0) bytes ([], bytes) x (record { front = refl; good = (refl, tt) }) e
 rows_only (suc n) bytes x e =
-    option_and_then_some _ (row_at bytes) x e (λ first there e1.
+    option_and_then_some _ (stored_row_at bytes) x e (λ first there e1.
     option_and_then_some _ (rows_at n first.1) x e1 (λ others more e2.
     let a = row_only bytes first there in
     let b = rows_only n first.1 others more in

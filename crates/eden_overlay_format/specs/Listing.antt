@@ -32,7 +32,7 @@ pub record IsUnderWay (count : ℕ) (file : List ℕ) : Type 0 where
   pub rows : file ≡ replicate 68 0 ++ flat_map row entries
 
 -- behind room for a header stands the body of a directory of so many entries
-pub record IsBodyOf (count : ℕ) (file : List ℕ) : Type 0 where
+pub record IsListingBody (count : ℕ) (file : List ℕ) : Type 0 where
   pub entries : List StoredEntry
   pub each : AllByRecursion IsStorable entries
   pub counted : length entries ≡ count

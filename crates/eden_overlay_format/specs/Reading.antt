@@ -81,8 +81,8 @@ name_at bytes = do
   text ← bytes_at len.0 len.1
   if is_none (name_refusal text.0) then Some text else None
 
-unfoldable pub row_at : List ℕ → Field StoredEntry
-row_at bytes = do
+unfoldable pub stored_row_at : List ℕ → Field StoredEntry
+stored_row_at bytes = do
   k ← kind_at bytes
   code ← byte_at k.1
   n ← entry_number_at code.1
@@ -93,7 +93,7 @@ row_at bytes = do
 unfoldable pub rows_at : ℕ → List ℕ → Field (List StoredEntry)
 rows_at zero bytes = Some ([], bytes)
 rows_at (suc n) bytes = do
-  first ← row_at bytes
+  first ← stored_row_at bytes
   others ← rows_at n first.1
   Some (first.0 ∷ others.0, others.1)
 

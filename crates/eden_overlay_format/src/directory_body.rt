@@ -39,13 +39,13 @@ pub struct DirectoryBody {
 impl Model for DirectoryBody {
     ghost use Rattle.std.specs.Prelude.{List};
     ghost use Rattle.eden_overlay_format.specs.declared.stored_entry.StoredEntry.{StoredEntry};
-    ghost use Rattle.eden_overlay_format.specs.Listing.{IsBodyOf, entries_under_way};
+    ghost use Rattle.eden_overlay_format.specs.Listing.{IsListingBody, entries_under_way};
 
     ghost Value = { List StoredEntry };
 
     ghost view = { λ d. entries_under_way d.count d.file.items };
 
-    ghost invariant = { λ d. IsBodyOf d.count d.file.items };
+    ghost invariant = { λ d. IsListingBody d.count d.file.items };
 }
 
 impl DirectoryBody {

@@ -2,7 +2,7 @@
 
 ghost use Rattle.std.specs.Int.{w32, w64};
 ghost use Rattle.eden_overlay_format.specs.Reading.{Reaches, Gives, byte_at, bytes_at, number_at, kind_at};
-ghost use Rattle.eden_overlay_format.specs.Reading.{entry_number_at, origin_at, name_at, row_at};
+ghost use Rattle.eden_overlay_format.specs.Reading.{entry_number_at, origin_at, name_at, stored_row_at};
 
 use crate::refusal::{DecodeFault, Refusal};
 use crate::stored_entry::StoredEntry;
@@ -110,9 +110,9 @@ fn name_of(alloc: Global, bytes: &[u8]) -> Result<(Name, &[u8]), DecodeFault>
 }
 
 /// A row of a directory.
-#[tactic(auto, unfolding(crate::specs::Reading::row_at))]
+#[tactic(auto, unfolding(crate::specs::Reading::stored_row_at))]
 pub(crate) fn row_of(alloc: Global, bytes: &[u8]) -> Result<(StoredEntry, &[u8]), DecodeFault>
-    ensures { Gives (λ x. (x.0, x.1.now)) result (row_at bytes.now) }
+    ensures { Gives (λ x. (x.0, x.1.now)) result (stored_row_at bytes.now) }
 {
     let (kind, rest) = kind_of(bytes)?;
     let (code, rest) = byte_of(rest)?;

@@ -26,15 +26,15 @@ noted c k w = λ q. if k == q then w else c q
 -- what a change makes of a file
 abbrev pub over : Change → Option (List ℕ) → Option (List ℕ)
 over None file = file
-over (Some changed) file = changed
+over (Some changed_files) file = changed_files
 
 -- the files with the changes over them
-abbrev pub changed : Changes → Stored → Stored
-changed c f = λ q. over (c q) (f q)
+abbrev pub changed_files : Changes → Stored → Stored
+changed_files c f = λ q. over (c q) (f q)
 
 -- .. and where a file is stored, those alone
 abbrev pub unless_stored : Option (List ℕ) → Changes → Stored → Stored
-unless_stored None c f = changed c f
+unless_stored None c f = changed_files c f
 unless_stored (Some state) c f = f
 
 -- What an opening finds: a journal is emptied before the state is stored, file 0, so that one beside a state is from before it.

@@ -2,7 +2,7 @@ ghost use Rattle.std.specs.Prelude.{◌≡◌, ◌≢◌, Err, Some, IfOk, OnErr
 ghost use Rattle.eden_model.specs.Failures.{Counted, one_more};
 ghost use Rattle.eden_overlay.specs.Files.{with_file};
 ghost use Rattle.eden_overlay.specs.declared.files.FilesFault.TheVariants as fault;
-ghost use Rattle.eden_overlay_journal.specs.Changes.{at_opening, changed, unchanged};
+ghost use Rattle.eden_overlay_journal.specs.Changes.{at_opening, changed_files, unchanged};
 ghost use Rattle.eden_overlay_journal.specs.New.{bytes_as};
 
 use crate::journal::Journal;
@@ -84,11 +84,11 @@ impl<F, J> Journaled<F, J> {
     where
         F: Files<W>,
         J: Journal<W>,
-        ensures ok { W.honest → OnOk result (changed (J.changes self.new.journal) (F.stored self.new.files)
-            ≡ with_file (changed (J.changes self.old.journal) (F.stored self.old.files)) number
+        ensures ok { W.honest → OnOk result (changed_files (J.changes self.new.journal) (F.stored self.new.files)
+            ≡ with_file (changed_files (J.changes self.old.journal) (F.stored self.old.files)) number
             (Some (bytes_as new.entry))) }
-        ensures err { W.honest → OnErr result (changed (J.changes self.new.journal) (F.stored self.new.files)
-            ≡ changed (J.changes self.old.journal) (F.stored self.old.files)) }
+        ensures err { W.honest → OnErr result (changed_files (J.changes self.new.journal) (F.stored self.new.files)
+            ≡ changed_files (J.changes self.old.journal) (F.stored self.old.files)) }
         ensures counted { Counted (result ≡ Err fault.Device) self.old.failures self.new.failures }
     {
         self.standing.is_closed = self.standing.is_closed || number == STATE_NUMBER;
@@ -105,9 +105,9 @@ impl<F, J> Journaled<F, J> {
 }
 
 impl<W: World, F: Files<W>, J: Journal<W>> Files<W> for Journaled<F, J> {
-    ghost use Rattle.eden_overlay_journal.specs.Changes.{changed};
+    ghost use Rattle.eden_overlay_journal.specs.Changes.{changed_files};
 
-    ghost stored = { λ s. changed (J.changes s.journal) (F.stored s.files) };
+    ghost stored = { λ s. changed_files (J.changes s.journal) (F.stored s.files) };
 
     ghost failures = { λ s. s.failures };
 

@@ -1,7 +1,7 @@
 // What a journal says, done to the files.
 ghost use Rattle.std.specs.Prelude.{◌≡◌, All, OnErr, OnOk, Some};
 ghost use Rattle.eden_overlay.specs.Files.{with_file};
-ghost use Rattle.eden_overlay_journal.specs.Changes.{at_opening, changed, unchanged};
+ghost use Rattle.eden_overlay_journal.specs.Changes.{at_opening, changed_files, unchanged};
 
 use crate::journal::Journal;
 use eden_model::World;
@@ -17,7 +17,7 @@ fn pour_one<W: World, F: Files<W>, J: Journal<W>>(
 ) -> Result<(), FilesFault>
     ensures journal { W.honest → J.changes journal.new ≡ J.changes journal.old }
     ensures ok { W.honest → OnOk result (F.stored files.new
-        ≡ with_file (F.stored files.old) number (changed (J.changes journal.old) (F.stored files.old) number)) }
+        ≡ with_file (F.stored files.old) number (changed_files (J.changes journal.old) (F.stored files.old) number)) }
     ensures err { W.honest → OnErr result (F.stored files.new ≡ F.stored files.old) }
 {
     match journal.read(alloc, number)? {
@@ -62,8 +62,8 @@ pub(crate) fn pour<W: World, F: Files<W>, J: Journal<W>>(
     journal: &mut J,
     wait: Wait,
 ) -> Result<(), FilesFault>
-    ensures same { W.honest → changed (J.changes journal.new) (F.stored files.new)
-        ≡ changed (J.changes journal.old) (F.stored files.old) }
+    ensures same { W.honest → changed_files (J.changes journal.new) (F.stored files.new)
+        ≡ changed_files (J.changes journal.old) (F.stored files.old) }
     ensures empty { W.honest → OnOk result (J.changes journal.new ≡ unchanged) }
 {
     let numbers = journal.numbers(alloc)?;
@@ -121,10 +121,10 @@ fn pour_all<W: World, F: Files<W>, J: Journal<W>>(
     numbers: &[u64],
 ) -> Result<(), FilesFault>
     ensures journal { W.honest → J.changes journal.new ≡ J.changes journal.old }
-    ensures same { W.honest → changed (J.changes journal.old) (F.stored files.new)
-        ≡ changed (J.changes journal.old) (F.stored files.old) }
+    ensures same { W.honest → changed_files (J.changes journal.old) (F.stored files.new)
+        ≡ changed_files (J.changes journal.old) (F.stored files.old) }
     ensures ok { W.honest → OnOk result (All (λ k. F.stored files.new k
-        ≡ changed (J.changes journal.old) (F.stored files.old) k) numbers.now) }
+        ≡ changed_files (J.changes journal.old) (F.stored files.old) k) numbers.now) }
 {
     for number in numbers {
         pour_one::<W, _, _>(alloc, files, journal, *number)?;
@@ -143,8 +143,8 @@ pub(crate) fn take_in<W: World, F: Files<W>, J: Journal<W>>(
     ensures said { W.honest → OnOk result (J.changes journal.new ≡ unchanged) }
     ensures stored { W.honest → OnOk result (F.stored files.new
         ≡ at_opening (J.changes journal.old) (F.stored files.old)) }
-    ensures kept { W.honest → OnErr result (changed (J.changes journal.new) (F.stored files.new)
-        ≡ changed (J.changes journal.old) (F.stored files.old)) }
+    ensures kept { W.honest → OnErr result (changed_files (J.changes journal.new) (F.stored files.new)
+        ≡ changed_files (J.changes journal.old) (F.stored files.old)) }
 {
     match files.head(STATE_NUMBER)? {
         Some(_) => {

@@ -5,7 +5,7 @@ ghost use Rattle.std.specs.Ordering.{nat_cmp};
 ghost use Rattle.std.specs.List.Sorted.{IsStrictlySortedBy};
 ghost use Rattle.eden_overlay.specs.Files.{IsHeadOf, ListsNumbers, part, with_file};
 ghost use Rattle.eden_overlay.specs.declared.files.FilesFault.TheVariants as fault;
-ghost use Rattle.eden_overlay_journal.specs.Changes.{changed};
+ghost use Rattle.eden_overlay_journal.specs.Changes.{changed_files};
 ghost use Rattle.eden_overlay_journal.specs.New.{bytes_as};
 
 use crate::journal::Journal;
@@ -46,7 +46,7 @@ pub(crate) fn read<W: World, F: Files<W>, J: Journal<W>>(
     number: u64,
 ) -> Result<Option<Vec<u8>>, FilesFault>
     ensures found { W.honest → IfOk result (λ o. option_map (λ v. v.items) o
-        ≡ changed (J.changes journal.old) (F.stored files.old) number) }
+        ≡ changed_files (J.changes journal.old) (F.stored files.old) number) }
     ensures files { W.honest → F.stored files.new ≡ F.stored files.old }
     ensures journal { W.honest → J.changes journal.new ≡ J.changes journal.old }
 {
@@ -62,7 +62,7 @@ pub(crate) fn head<W: World, F: Files<W>, J: Journal<W>>(
     number: u64,
 ) -> Result<Option<Head>, FilesFault>
     ensures found { W.honest → IfOk result
-        (IsHeadOf (changed (J.changes journal.old) (F.stored files.old) number)) }
+        (IsHeadOf (changed_files (J.changes journal.old) (F.stored files.old) number)) }
     ensures files { W.honest → F.stored files.new ≡ F.stored files.old }
     ensures journal { W.honest → J.changes journal.new ≡ J.changes journal.old }
     ensures fault { IfErr result (λ f. f ≡ fault.Device) }
@@ -83,7 +83,7 @@ pub(crate) fn read_part<W: World, F: Files<W>, J: Journal<W>>(
     most: u64,
 ) -> Result<Option<Vec<u8>>, FilesFault>
     ensures found { W.honest → IfOk result (λ o. option_map (λ v. v.items) o
-        ≡ option_map (part from most) (changed (J.changes journal.old) (F.stored files.old) number)) }
+        ≡ option_map (part from most) (changed_files (J.changes journal.old) (F.stored files.old) number)) }
     ensures bounded { IfOk result (λ o. IfSome o (λ v. length v.items ≤ most)) }
     ensures files { W.honest → F.stored files.new ≡ F.stored files.old }
     ensures journal { W.honest → J.changes journal.new ≡ J.changes journal.old }
@@ -104,8 +104,8 @@ fn make_room<W: World, F: Files<W>, J: Journal<W>>(
     journal: &mut J,
     standing: Standing,
 ) -> Result<(), FilesFault>
-    ensures { W.honest → changed (J.changes journal.new) (F.stored files.new)
-        ≡ changed (J.changes journal.old) (F.stored files.old) }
+    ensures { W.honest → changed_files (J.changes journal.new) (F.stored files.new)
+        ≡ changed_files (J.changes journal.old) (F.stored files.old) }
 {
     if standing.is_closed {
         return pour::<W, _, _>(alloc, files, journal, standing.wait());
@@ -124,8 +124,8 @@ fn pour_full<W: World, F: Files<W>, J: Journal<W>>(
     journal: &mut J,
     standing: Standing,
 )
-    ensures { W.honest → changed (J.changes journal.new) (F.stored files.new)
-        ≡ changed (J.changes journal.old) (F.stored files.old) }
+    ensures { W.honest → changed_files (J.changes journal.new) (F.stored files.new)
+        ≡ changed_files (J.changes journal.old) (F.stored files.old) }
 {
     if pour::<W, _, _>(alloc, files, journal, standing.wait()).is_err() {
         journal.put_off();
@@ -141,10 +141,10 @@ pub(crate) fn replace<W: World, F: Files<W>, J: Journal<W>>(
     number: u64,
     new: NewFile<'_>,
 ) -> Result<(), FilesFault>
-    ensures ok { W.honest → OnOk result (changed (J.changes journal.new) (F.stored files.new)
-        ≡ with_file (changed (J.changes journal.old) (F.stored files.old)) number (Some (bytes_as new.entry))) }
-    ensures err { W.honest → OnErr result (changed (J.changes journal.new) (F.stored files.new)
-        ≡ changed (J.changes journal.old) (F.stored files.old)) }
+    ensures ok { W.honest → OnOk result (changed_files (J.changes journal.new) (F.stored files.new)
+        ≡ with_file (changed_files (J.changes journal.old) (F.stored files.old)) number (Some (bytes_as new.entry))) }
+    ensures err { W.honest → OnErr result (changed_files (J.changes journal.new) (F.stored files.new)
+        ≡ changed_files (J.changes journal.old) (F.stored files.old)) }
 {
     make_room::<W, _, _>(alloc, files, journal, standing)?;
     put_in::<W, _, _>(alloc, files, journal, standing, number, new)
@@ -159,10 +159,10 @@ fn put_in<W: World, F: Files<W>, J: Journal<W>>(
     number: u64,
     new: NewFile<'_>,
 ) -> Result<(), FilesFault>
-    ensures ok { W.honest → OnOk result (changed (J.changes journal.new) (F.stored files.new)
-        ≡ with_file (changed (J.changes journal.old) (F.stored files.old)) number (Some (bytes_as new.entry))) }
-    ensures err { W.honest → OnErr result (changed (J.changes journal.new) (F.stored files.new)
-        ≡ changed (J.changes journal.old) (F.stored files.old)) }
+    ensures ok { W.honest → OnOk result (changed_files (J.changes journal.new) (F.stored files.new)
+        ≡ with_file (changed_files (J.changes journal.old) (F.stored files.old)) number (Some (bytes_as new.entry))) }
+    ensures err { W.honest → OnErr result (changed_files (J.changes journal.new) (F.stored files.new)
+        ≡ changed_files (J.changes journal.old) (F.stored files.old)) }
 {
     let answer = if standing.is_closed || !new.is_short() {
         put_past::<W, _, _>(alloc, files, journal, standing, number, new)
@@ -187,10 +187,10 @@ fn put_poured<W: World, F: Files<W>, J: Journal<W>>(
     number: u64,
     new: NewFile<'_>,
 ) -> Result<(), FilesFault>
-    ensures ok { W.honest → OnOk result (changed (J.changes journal.new) (F.stored files.new)
-        ≡ with_file (changed (J.changes journal.old) (F.stored files.old)) number (Some (bytes_as new.entry))) }
-    ensures err { W.honest → OnErr result (changed (J.changes journal.new) (F.stored files.new)
-        ≡ changed (J.changes journal.old) (F.stored files.old)) }
+    ensures ok { W.honest → OnOk result (changed_files (J.changes journal.new) (F.stored files.new)
+        ≡ with_file (changed_files (J.changes journal.old) (F.stored files.old)) number (Some (bytes_as new.entry))) }
+    ensures err { W.honest → OnErr result (changed_files (J.changes journal.new) (F.stored files.new)
+        ≡ changed_files (J.changes journal.old) (F.stored files.old)) }
 {
     pour::<W, _, _>(alloc, files, journal, standing.wait())?;
     put_past::<W, _, _>(alloc, files, journal, standing, number, new)
@@ -205,10 +205,10 @@ fn put_past<W: World, F: Files<W>, J: Journal<W>>(
     number: u64,
     new: NewFile<'_>,
 ) -> Result<(), FilesFault>
-    ensures ok { W.honest → OnOk result (changed (J.changes journal.new) (F.stored files.new)
-        ≡ with_file (changed (J.changes journal.old) (F.stored files.old)) number (Some (bytes_as new.entry))) }
-    ensures err { W.honest → OnErr result (changed (J.changes journal.new) (F.stored files.new)
-        ≡ changed (J.changes journal.old) (F.stored files.old)) }
+    ensures ok { W.honest → OnOk result (changed_files (J.changes journal.new) (F.stored files.new)
+        ≡ with_file (changed_files (J.changes journal.old) (F.stored files.old)) number (Some (bytes_as new.entry))) }
+    ensures err { W.honest → OnErr result (changed_files (J.changes journal.new) (F.stored files.new)
+        ≡ changed_files (J.changes journal.old) (F.stored files.old)) }
 {
     settle_first::<W, _>(journal, standing);
     store::<W, _>(alloc, files, number, new)?;
@@ -244,10 +244,10 @@ pub(crate) fn remove<W: World, F: Files<W>, J: Journal<W>>(
     standing: Standing,
     number: u64,
 ) -> Result<(), FilesFault>
-    ensures ok { W.honest → OnOk result (changed (J.changes journal.new) (F.stored files.new)
-        ≡ with_file (changed (J.changes journal.old) (F.stored files.old)) number None) }
-    ensures err { W.honest → OnErr result (changed (J.changes journal.new) (F.stored files.new)
-        ≡ changed (J.changes journal.old) (F.stored files.old)) }
+    ensures ok { W.honest → OnOk result (changed_files (J.changes journal.new) (F.stored files.new)
+        ≡ with_file (changed_files (J.changes journal.old) (F.stored files.old)) number None) }
+    ensures err { W.honest → OnErr result (changed_files (J.changes journal.new) (F.stored files.new)
+        ≡ changed_files (J.changes journal.old) (F.stored files.old)) }
     ensures fault { IfErr result (λ f. f ≡ fault.Device) }
 {
     if standing.is_closed
@@ -301,10 +301,10 @@ fn remove_past<W: World, F: Files<W>, J: Journal<W>>(
     standing: Standing,
     number: u64,
 ) -> Result<(), FilesFault>
-    ensures ok { W.honest → OnOk result (changed (J.changes journal.new) (F.stored files.new)
-        ≡ with_file (changed (J.changes journal.old) (F.stored files.old)) number None) }
-    ensures err { W.honest → OnErr result (changed (J.changes journal.new) (F.stored files.new)
-        ≡ changed (J.changes journal.old) (F.stored files.old)) }
+    ensures ok { W.honest → OnOk result (changed_files (J.changes journal.new) (F.stored files.new)
+        ≡ with_file (changed_files (J.changes journal.old) (F.stored files.old)) number None) }
+    ensures err { W.honest → OnErr result (changed_files (J.changes journal.new) (F.stored files.new)
+        ≡ changed_files (J.changes journal.old) (F.stored files.old)) }
     ensures fault { IfErr result (λ f. f ≡ fault.Device) }
 {
     settle_first::<W, _>(journal, standing);
@@ -334,9 +334,9 @@ pub(crate) fn list<W: World, F: Files<W>, J: Journal<W>>(
 ) -> Result<Vec<u64>, FilesFault>
     ensures rising { IfOk result (λ v. IsStrictlySortedBy nat_cmp v.items) }
     ensures all { W.honest → IfOk result (λ v.
-        ListsNumbers v.items (changed (J.changes journal.old) (F.stored files.old))) }
-    ensures unchanged { W.honest → changed (J.changes journal.new) (F.stored files.new)
-        ≡ changed (J.changes journal.old) (F.stored files.old) }
+        ListsNumbers v.items (changed_files (J.changes journal.old) (F.stored files.old))) }
+    ensures unchanged { W.honest → changed_files (J.changes journal.new) (F.stored files.new)
+        ≡ changed_files (J.changes journal.old) (F.stored files.old) }
 {
     pour::<W, _, _>(alloc, files, journal, standing.wait())?;
     files.list(alloc)

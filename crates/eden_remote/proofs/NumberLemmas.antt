@@ -7,7 +7,7 @@ use Rattle.std.proofs.lemmas.Int.Digits.{digits_value_more, digits_more}
 use Rattle.std.proofs.lemmas.Fmt.{decimal_nonempty, decimal_digit, digits_decimal, first_decimal, decimal-digits_value}
 use Rattle.std.proofs.lemmas.Str.{digit_value_digit}
 use Rattle.std.proofs.lemmas.Str.Parse.{IsNumeralModel, numerals_by_value, tells_digits}
-use Rattle.eden_remote.specs.Protocol.{IsNumber}
+use Rattle.eden_remote.specs.Protocol.{IsNumberText}
 
 -- one digit more, of a number that counts up to a bound
 pub capped_more : (text : List ℕ) (i n cap : ℕ) → i < length text → IsInRange 48 57 (get_or text i 0) → n ≡ min (digits_value 10 (take i text)) cap
@@ -29,7 +29,7 @@ own : IsNumeralModel (AllDigits 10) (digits_value 10)
 own = numerals_by_value (AllDigits 10) tells_digits
 
 -- the digits of a number that isn't over the bound are its text
-pub number_text : (digits : List ℕ) (n cap : ℕ) → cap < 2 ^ 64 → IsNumber digits → n ≡ min (digits_value 10 digits) cap → n < cap → decimal n ≡ digits
+pub number_text : (digits : List ℕ) (n cap : ℕ) → cap < 2 ^ 64 → IsNumberText digits → n ≡ min (digits_value 10 digits) cap → n < cap → decimal n ≡ digits
 number_text digits n cap small number e below =
     let same : n ≡ digits_value 10 digits = omega arith in
     ap decimal same ∙ decimal-digits_value own digits number.digits number.some number.first (omega arith)
@@ -42,5 +42,5 @@ first_alone (suc n) small h =
     absurd (omega arith)
 
 -- a number's text is its digits
-pub text_number : (n : ℕ) → n < 2 ^ 64 → IsNumber (decimal n)
+pub text_number : (n : ℕ) → n < 2 ^ 64 → IsNumberText (decimal n)
 text_number n small = record { some = decimal_nonempty n small; digits = digits_decimal own n small; first = first_alone n small }

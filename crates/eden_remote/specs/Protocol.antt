@@ -40,14 +40,14 @@ answer_text (Err cause.Missing) = missing_line
 answer_text (Err e) = fault_line
 
 -- the digits of a number, without leading zeros
-pub record IsNumber (text : List ℕ) : Type 0 where
+pub record IsNumberText (text : List ℕ) : Type 0 where
   pub some : 0 < length text
   pub digits : AllDigits 10 text
   pub first : slice_index text 0 ≡ digit_zero → length text ≡ 1
 
 -- the first line of an answer, without its line feed
 abbrev pub IsFirstLine : List ℕ → Type 0
-IsFirstLine line = (line ≡ codes "missing") ⊎ (line ≡ codes "fault") ⊎ ((digits : List ℕ) × IsNumber digits × (line ≡ codes "object " ++ digits))
+IsFirstLine line = (line ≡ codes "missing") ⊎ (line ≡ codes "fault") ⊎ ((digits : List ℕ) × IsNumberText digits × (line ≡ codes "object " ++ digits))
 
 -- the text was written, or at an error a beginning of it
 abbrev pub SendsUpTo : {T E : Type 0} → Known → Known → List ℕ → Result T E → Type 0

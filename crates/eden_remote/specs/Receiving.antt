@@ -6,13 +6,13 @@ use Rattle.std.specs.declared.alloc.Global.{Global}
 use Rattle.std.specs.declared.vec.Vec.{Vec}
 use Rattle.eden_model.specs.Bytes.{line_feed}
 use Rattle.eden_object.specs.Frames.{longest_framed}
-use Rattle.eden_remote.specs.Protocol.{Known, IsOneLine, IsNumber, IsFirstLine, object_line, object_text, missing_line, fault_line}
+use Rattle.eden_remote.specs.Protocol.{Known, IsOneLine, IsNumberText, IsFirstLine, object_line, object_text, missing_line, fault_line}
 use Rattle.eden_remote.specs.declared.refusal.Refusal.{Refusal}
 use Rattle.eden_remote.specs.declared.refusal.Refusal.TheVariants as refusal
 
 -- a number over that, of any size
 pub record IsTooLong (digits : List ℕ) : Type 0 where
-  pub number : IsNumber digits
+  pub number : IsNumberText digits
   pub over : longest_framed < digits_value 10 digits
 
 -- a first line of at most 32 bytes, its line feed among them

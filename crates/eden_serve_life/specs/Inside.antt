@@ -16,7 +16,7 @@ use Rattle.eden_checkout.specs.Attempted.{attempted}
 use Rattle.eden_checkout.specs.Checkouts.{Checkout}
 use Rattle.eden_shared.specs.declared.account.Terms.{Terms}
 use Rattle.eden_stdio_life.specs.declared.opening.Base.{Base}
-use Rattle.eden_stdio_life.specs.Opening.{Closes, IsBacking, IsOpened, IsRefused}
+use Rattle.eden_stdio_life.specs.Opening.{Closes, IsBacking, IsOpened, IsNotOpened}
 use Rattle.eden_host.specs.declared.fault.HostFault.{HostFault}
 use Rattle.eden_serve_life.specs.declared.fault.SharedLifeFault.{SharedLifeFault}
 use Rattle.eden_serve_life.specs.declared.fault.SharedLifeFault.TheVariants as life
@@ -41,7 +41,7 @@ module _ {W F : Type 0} (w : Ghosts W) (f : Files F W) where
 
   -- the overlay wasn't opened, for that fault
   pub record IsUnopenedInside (base : Base) (files : F) (why : OpenFault) (left : SharedEnding F) : Type 0 where
-    pub refused : IsRefused w f base files why left.files
+    pub refused : IsNotOpened w f base files why left.files
     pub unclosed : left.unclosed ≡ None
 
   -- The overlay was opened, and closed again, since there was no memory to share it. Where the outside is honest, it shows

@@ -35,7 +35,7 @@ use Rattle.eden_snapshot.specs.declared.rows.Row.{Row}
 use Rattle.eden_snapshot.specs.Changes.{Told, Stand, StandsAs, StandsBy, StandsAsBlob, own_directory, own_directory_by, number_of, sort_of, is_same, is_tree, is_whole, told_of, change_of}
 use Rattle.eden_snapshot.specs.Changes.{Differ, none, alone, within, HasInside, TellsAll, untouched, own}
 use Rattle.eden_snapshot.specs.Changes.{DifferSoFar, stopped, passed, begun, entered, TellsSome, TellsAllSoFar}
-use Rattle.eden_snapshot.specs.Commits.{Place, place_of, place_named}
+use Rattle.eden_snapshot.specs.Commits.{Place, mode_and_id, place_named}
 use Rattle.eden_snapshot.specs.Exact.{shows_as, sort_shown, TellsLess, AreApart, LeadsTo, added, removed, modified, retyped, IsCovered, GrowsExactly, GrowsTruly, HasBlobs}
 use Rattle.eden_snapshot.specs.Rows.{Rows, AreRows, nothing, is_name, row_in, stored_named}
 use Rattle.eden_snapshot.specs.Showing.{FilesShow}
@@ -374,7 +374,7 @@ module _ (R : Repository) (F : Stored) where
         ap (λ (i : Item Source). shown G i (m ∷ q)) (own_is e k h) ∙ at_name G (Own k) (items_of new) (own_entries R F k new held) m q
 
     -- what the commit has in a tree
-    named_item : (o : Option TreeEntry) (q : Path) → shown_at G (option_map (λ (t : TreeEntry). item_by t.mode t.id) o) q ≡ was (option_map place_of o) q
+    named_item : (o : Option TreeEntry) (q : Path) → shown_at G (option_map (λ (t : TreeEntry). item_by t.mode t.id) o) q ≡ was (option_map mode_and_id o) q
     named_item None q = refl
     named_item (Some t) q = refl
 

@@ -10,7 +10,7 @@ use Rattle.eden_model.specs.declared.tree_entry.TreeEntry.{TreeEntry}
 use Rattle.eden_model.specs.Repository.{entry_named}
 use Rattle.eden_model.specs.Trees.{Name}
 use Rattle.eden_overlay_format.specs.declared.stored_entry.StoredEntry.{StoredEntry}
-use Rattle.eden_snapshot.specs.Commits.{place_of, place_named}
+use Rattle.eden_snapshot.specs.Commits.{mode_and_id, place_named}
 use Rattle.eden_snapshot.specs.Rows.{Rows, nothing, is_name, row_in, over_all, beside, stored_named}
 use Rattle.eden_snapshot.specs.declared.rows.Row.{Row}
 
@@ -28,15 +28,15 @@ pub same_name : (k n : Name) → is_name k n ≡ bytes_eq n k
 same_name k n = is_eq-slice_cmp k n ∙ nat_list_eq_equiv.symm k n
 
 first_old : (base : Row) (b : Bool) (e : TreeEntry) (o : Option TreeEntry)
-    → cond b (record { old = Some (place_of e); new = None }) (over_all base (option_map place_of o)) ≡ over_all base (option_map place_of (cond b (Some e) o))
+    → cond b (record { old = Some (mode_and_id e); new = None }) (over_all base (option_map mode_and_id o)) ≡ over_all base (option_map mode_and_id (cond b (Some e) o))
 first_old base true e o = refl
 first_old base false e o = refl
 
 -- one of the commit's entries is put over those behind it
 pub old_put : (base mid new : Row) (n : Name) (e : TreeEntry) (es : List TreeEntry) → mid ≡ over_all base (place_named n es)
-    → new ≡ cond (is_name e.name n) (record { old = Some (place_of e); new = None }) mid → new ≡ over_all base (place_named n (e ∷ es))
+    → new ≡ cond (is_name e.name n) (record { old = Some (mode_and_id e); new = None }) mid → new ≡ over_all base (place_named n (e ∷ es))
 old_put base mid new n e es before put =
-    let v : Row = record { old = Some (place_of e); new = None } in
+    let v : Row = record { old = Some (mode_and_id e); new = None } in
     put ∙ ap (λ (r : Row). cond (is_name e.name n) v r) before ∙ ap (λ b. cond b v (over_all base (place_named n es))) (same_name e.name n)
     ∙ first_old base (bytes_eq n e.name) e (entry_named n es)
 

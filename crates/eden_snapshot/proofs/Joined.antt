@@ -15,8 +15,8 @@ use Rattle.eden_overlay.specs.Files.{Stored}
 use Rattle.eden_overlay.specs.Held.{root_file}
 use Rattle.eden_snapshot.specs.declared.left_out.LeftOut.TheVariants as why
 use Rattle.eden_snapshot.specs.Sinks.{Handed, Told, Omission, Filled, grown, with_object, with_omission}
-use Rattle.eden_snapshot.specs.Written.{mode_of, entry_with, entries_with, Known, path_of, Written, nothing, object, content, directory}
-use Rattle.eden_snapshot.specs.Written.{bare, submodule, unknown, Writes, WritesDirectory, WritesTop, own, HandedTree, HandedContent, StandsFor, IsSubmodule}
+use Rattle.eden_snapshot.specs.Written.{mode_of, entry_with, tree_entries_of, Known, path_of, Written, nothing, object, content, directory}
+use Rattle.eden_snapshot.specs.Written.{bare, submodule, unknown, WritesEntries, WritesDirectory, WritesTop, own, HandedTree, HandedContent, StandsFor, IsSubmodule}
 
 module _ (F : Stored) (K : Known) (front : Path) (fs : List StoredEntry) (us : List TreeEntry) (after : Handed) (later : Told)
     (then_written : Written F K front fs us after later) where
@@ -76,12 +76,12 @@ omission_grown f o =
     ap by_kept (sym (append-nil f.kept))
 
 -- nothing yet
-pub none_yet : (F : Stored) (K : Known) (front : Path) (f : Filled) → Writes F K front [] [] f f
+pub none_yet : (F : Stored) (K : Known) (front : Path) (f : Filled) → WritesEntries F K front [] [] f f
 none_yet F K front f = record { handed = []; told = []; grew = grown_none f; written = nothing front }
 
 -- one entry more
 pub one_more : (F : Stored) (K : Known) (front : Path) (es : List StoredEntry) (ts : List TreeEntry) (e : StoredEntry) (us : List TreeEntry) (old mid new : Filled)
-    → Writes F K front es ts old mid → Writes F K front (e ∷ []) us mid new → Writes F K front (es ++ e ∷ []) (ts ++ us) old new
+    → WritesEntries F K front es ts old mid → WritesEntries F K front (e ∷ []) us mid new → WritesEntries F K front (es ++ e ∷ []) (ts ++ us) old new
 one_more F K front es ts e us old mid new w v = record {
   handed = w.handed ++ v.handed;
   told = w.told ++ v.told;
@@ -92,11 +92,11 @@ one_more F K front es ts e us old mid new w v = record {
 -- ---- one entry alone, by what it is written as
 
 pub alone_object : (F : Stored) (K : Known) (front : Path) (e : StoredEntry) (id : Id) (f : Filled) → e.origin ≡ origin.Object id
-    → Writes F K front (e ∷ []) (entry_with e id ∷ []) f f
+    → WritesEntries F K front (e ∷ []) (entry_with e id ∷ []) f f
 alone_object F K front e id f is = record { handed = []; told = []; grew = grown_none f; written = object front e id [] [] [] [] is (nothing front) }
 
 pub alone_content : (F : Stored) (K : Known) (front : Path) (e : StoredEntry) (id : Id) (old new : Filled) → e.origin ≡ origin.Own → e.kind ≢ kind.Dir
-    → HandedContent F e.number id old new → Writes F K front (e ∷ []) (entry_with e id ∷ []) old new
+    → HandedContent F e.number id old new → WritesEntries F K front (e ∷ []) (entry_with e id ∷ []) old new
 alone_content F K front e id old new is plain h = record {
   handed = frame word.Blob h.bytes ∷ [];
   told = [];
@@ -106,11 +106,11 @@ alone_content F K front e id old new is plain h = record {
 
 -- under the mode that it was given
 pub by_mode : (F : Stored) (K : Known) (front : Path) (e : StoredEntry) (m n : Mode) (id : Id) (old new : Filled) → m ≡ n
-    → Writes F K front (e ∷ []) (entries_with e (Some (n, id))) old new → Writes F K front (e ∷ []) (entries_with e (Some (m, id))) old new
-by_mode F K front e m n id old new same w = subst (λ (k : Mode). Writes F K front (e ∷ []) (entries_with e (Some (k, id))) old new) (sym same) w
+    → WritesEntries F K front (e ∷ []) (tree_entries_of e (Some (n, id))) old new → WritesEntries F K front (e ∷ []) (tree_entries_of e (Some (m, id))) old new
+by_mode F K front e m n id old new same w = subst (λ (k : Mode). WritesEntries F K front (e ∷ []) (tree_entries_of e (Some (k, id))) old new) (sym same) w
 
 as_tree : (F : Stored) (K : Known) (front : Path) (e : StoredEntry) (ts : List TreeEntry) (id : Id) (old mid new : Filled) → e.origin ≡ origin.Own → e.kind ≡ kind.Dir
-    → WritesDirectory F K (path_of front e) e.number ts old mid → ts ≢ [] → HandedTree ts id mid new → Writes F K front (e ∷ []) (entry_with e id ∷ []) old new
+    → WritesDirectory F K (path_of front e) e.number ts old mid → ts ≢ [] → HandedTree ts id mid new → WritesEntries F K front (e ∷ []) (entry_with e id ∷ []) old new
 as_tree F K front e [] id old mid new is at_kind w some h = absurd (some refl)
 as_tree F K front e (first ∷ others) id old mid new is at_kind w some h = record {
   handed = w.writes.handed ++ h.framed ∷ [];
@@ -123,7 +123,7 @@ as_tree F K front e (first ∷ others) id old mid new is at_kind w some h = reco
 
 -- an own directory
 pub alone_directory : (F : Stored) (K : Known) (front : Path) (e : StoredEntry) (o : Option (Mode × Id)) (old new : Filled) → e.origin ≡ origin.Own → e.kind ≡ kind.Dir
-    → StandsFor F K (path_of front e) e.number o old new → Writes F K front (e ∷ []) (entries_with e o) old new
+    → StandsFor F K (path_of front e) e.number o old new → WritesEntries F K front (e ∷ []) (tree_entries_of e o) old new
 alone_directory F K front e (Some stands) old new is at_kind h =
     let w = as_tree F K front e h.1.0 stands.1 old h.1.1.0 new is at_kind h.1.1.1.0 h.1.1.1.1 h.1.1.1.2 in
     let same : stands.0 ≡ mode_of e.kind = h.0 ∙ ap mode_of (sym at_kind) in
@@ -142,9 +142,9 @@ alone_directory F K front e None old new is at_kind h =
 
 -- one without contents
 pub alone_void : (F : Stored) (K : Known) (front : Path) (e : StoredEntry) (o : Option (Mode × Id)) (old new : Filled) → e.origin ≡ origin.Empty
-    → IsSubmodule K (path_of front e) o old new → Writes F K front (e ∷ []) (entries_with e o) old new
+    → IsSubmodule K (path_of front e) o old new → WritesEntries F K front (e ∷ []) (tree_entries_of e o) old new
 alone_void F K front e (Some stands) old new is h =
-    let w : Writes F K front (e ∷ []) (entries_with e (Some (mode.Gitlink, stands.1))) old new = record {
+    let w : WritesEntries F K front (e ∷ []) (tree_entries_of e (Some (mode.Gitlink, stands.1))) old new = record {
       handed = [];
       told = [];
       grew = h.2 ∙ grown_none old;
@@ -164,13 +164,13 @@ alone_void F K front e None old new is h =
 
 -- one entry more, whatever stands for the files, the submodules and the path in between
 pub goes_on : (F G : Stored) (K L : Known) (front at : Path) (es : List StoredEntry) (ts all : List TreeEntry) (e : StoredEntry) (us : List TreeEntry) (old mid new : Filled)
-    → G ≡ F → L ≡ K → at ≡ front → all ≡ ts ++ us → Writes F K front es ts old mid → Writes G L at (e ∷ []) us mid new
-    → Writes F K front (es ++ e ∷ []) all old new
+    → G ≡ F → L ≡ K → at ≡ front → all ≡ ts ++ us → WritesEntries F K front es ts old mid → WritesEntries G L at (e ∷ []) us mid new
+    → WritesEntries F K front (es ++ e ∷ []) all old new
 goes_on F G K L front at es ts all e us old mid new same alike there is w v =
-    let here = subst (λ (H : Stored). Writes H L at (e ∷ []) us mid new) same v in
-    let known = subst (λ (M : Known). Writes F M at (e ∷ []) us mid new) alike here in
-    let placed = subst (λ (p : Path). Writes F K p (e ∷ []) us mid new) there known in
-    subst (λ (xs : List TreeEntry). Writes F K front (es ++ e ∷ []) xs old new) (sym is) (one_more F K front es ts e us old mid new w placed)
+    let here = subst (λ (H : Stored). WritesEntries H L at (e ∷ []) us mid new) same v in
+    let known = subst (λ (M : Known). WritesEntries F M at (e ∷ []) us mid new) alike here in
+    let placed = subst (λ (p : Path). WritesEntries F K p (e ∷ []) us mid new) there known in
+    subst (λ (xs : List TreeEntry). WritesEntries F K front (es ++ e ∷ []) xs old new) (sym is) (one_more F K front es ts e us old mid new w placed)
 
 pub own_top : (F G : Stored) (K : Known) (root id : Id) (front : Path) (ts us : List TreeEntry) (old mid new : Filled) → G ≡ F → front ≡ [] → is_some (root_file F) ≡ true
     → WritesDirectory G K front 1 ts old mid → us ≡ ts → HandedTree us id mid new → WritesTop F K root id old new

@@ -12,11 +12,11 @@ use Rattle.eden_model.specs.Trees.{Name, Path}
 abbrev pub Place : Type 0
 Place = Mode × Id
 
-abbrev pub place_of : TreeEntry → Place
-place_of e = (e.mode, e.id)
+abbrev pub mode_and_id : TreeEntry → Place
+mode_and_id e = (e.mode, e.id)
 
 abbrev pub place_named : Name → List TreeEntry → Option Place
-place_named n es = option_map place_of (entry_named n es)
+place_named n es = option_map mode_and_id (entry_named n es)
 
 -- a tree alone has entries
 abbrev pub if_tree : {X : Type 0} → Mode → Option X → Option X

@@ -34,9 +34,9 @@ abbrev pub submodule_with : StoredEntry → Id → TreeEntry
 submodule_with e id = record { mode = mode.Gitlink; name = e.name; id = id }
 
 -- .. or none, where nothing is written of it
-abbrev pub entries_with : StoredEntry → Option (Mode × Id) → List TreeEntry
-entries_with e None = []
-entries_with e (Some stands) = record { mode = stands.0; name = e.name; id = stands.1 } ∷ []
+abbrev pub tree_entries_of : StoredEntry → Option (Mode × Id) → List TreeEntry
+tree_entries_of e None = []
+tree_entries_of e (Some stands) = record { mode = stands.0; name = e.name; id = stands.1 } ∷ []
 
 -- the id of the framed object
 abbrev pub IsIdOf : Id → List ℕ → Type 0
@@ -82,7 +82,7 @@ pub data Written (F : Stored) (K : Known) : Path → List StoredEntry → List T
       → Written F K front es ts handed told → Written F K front (e ∷ es) ts handed ((path_of front e, left.Submodule) ∷ told)
 
 -- so are these entries, by which the sink has more
-pub record Writes (F : Stored) (K : Known) (front : Path) (es : List StoredEntry) (ts : List TreeEntry) (old new : Filled) : Type 0 where
+pub record WritesEntries (F : Stored) (K : Known) (front : Path) (es : List StoredEntry) (ts : List TreeEntry) (old new : Filled) : Type 0 where
   pub handed : Handed
   pub told : Told
   pub grew : new ≡ grown old handed told
@@ -92,7 +92,7 @@ pub record Writes (F : Stored) (K : Known) (front : Path) (es : List StoredEntry
 pub record WritesDirectory (F : Stored) (K : Known) (front : Path) (k : ℕ) (ts : List TreeEntry) (old new : Filled) : Type 0 where
   pub inside : List StoredEntry
   pub held : HoldsEntries F k inside
-  pub writes : Writes F K front inside ts old new
+  pub writes : WritesEntries F K front inside ts old new
 
 -- ---- one object that is handed in
 

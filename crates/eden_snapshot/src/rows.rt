@@ -3,7 +3,7 @@
 ghost use Rattle.std.specs.Prelude.{◌≡◌, Some, None, [], IfOk, OnOk, if◌then◌else◌};
 ghost use Rattle.eden_model.specs.Named.{AreRising};
 ghost use Rattle.eden_model.specs.Trees as trees;
-ghost use Rattle.eden_snapshot.specs.Commits.{place_named, place_of};
+ghost use Rattle.eden_snapshot.specs.Commits.{place_named, mode_and_id};
 ghost use Rattle.eden_snapshot.specs.Rows.{AreRows, beside, is_name, over_all, row_in, stored_named};
 
 use eden_model::{Id, Mode, Name, TreeEntry};
@@ -59,7 +59,7 @@ fn put_all_old(
 // Puts what the commit has under a name, in the place of what is there.
 fn put_old(rows: &mut BTreeMap<Name, Row>, entry: TreeEntry) -> Result<(), AllocError>
     ensures { OnOk result ((n : trees.Name) → row_in rows.new.entries n
-        ≡ (if is_name entry.name n then record { old = Some (place_of entry); new = None }
+        ≡ (if is_name entry.name n then record { old = Some (mode_and_id entry); new = None }
         else row_in rows.old.entries n)) }
 {
     let old = Some((entry.mode, entry.id));

@@ -9,7 +9,7 @@ ghost use Rattle.eden_snapshot.specs.Showing.{FilesShow};
 ghost use Rattle.eden_snapshot.specs.Sinks.{HasAll};
 ghost use Rattle.eden_snapshot.specs.Written as spec;
 ghost use Rattle.eden_snapshot.specs.Written.{HandedContent, HandedTree, IsSubmodule, StandsFor};
-ghost use Rattle.eden_snapshot.specs.Written.{Writes, WritesDirectory, WritesTop, entries_with};
+ghost use Rattle.eden_snapshot.specs.Written.{WritesEntries, WritesDirectory, WritesTop, tree_entries_of};
 
 use crate::fault::{SnapshotFault, fault_of, of_files, of_sink};
 use crate::left_out::LeftOut;
@@ -200,8 +200,8 @@ fn object_of<W: World, F: Files<W>, S: Sink<W>, M: Submodules<W>>(
     entry: &StoredEntry,
     levels: u32,
 ) -> Result<Option<(Mode, Id)>, SnapshotFault>
-    ensures written { W.honest → IfOk result (λ found. Writes (F.stored overlay.old) (M.known submodules.old) trail.old
-        (entry.now ∷ []) (entries_with entry.now found) (S.filled sink.old) (S.filled sink.new)) }
+    ensures written { W.honest → IfOk result (λ found. WritesEntries (F.stored overlay.old) (M.known submodules.old)
+        trail.old (entry.now ∷ []) (tree_entries_of entry.now found) (S.filled sink.old) (S.filled sink.new)) }
     ensures unchanged { W.honest → F.stored overlay.new ≡ F.stored overlay.old }
     ensures known { W.honest → M.known submodules.new ≡ M.known submodules.old }
     ensures back { OnOk result (trail.new ≡ trail.old) }

@@ -22,8 +22,8 @@ use Rattle.eden_stdio_life.specs.declared.life.Backing.{Backing}
 use Rattle.eden_stdio_life.specs.declared.life.Ending.{Ending}
 use Rattle.eden_stdio_life.specs.declared.opening.Base.{Base}
 use Rattle.eden_stdio_life.specs.Calls.{CallAnswers, MayBeTold}
-use Rattle.eden_stdio_life.specs.Lives.{first_fault}
-use Rattle.eden_stdio_life.specs.Opening.{Closes, IsOpened, IsRefused}
+use Rattle.eden_stdio_life.specs.Lives.{first_life_fault}
+use Rattle.eden_stdio_life.specs.Opening.{Closes, IsOpened, IsNotOpened}
 use Rattle.eden_stdio_life.specs.Serving.{Begins}
 
 module _ {W F : Type 0} (w : Ghosts W) (f : Files F W) where
@@ -32,13 +32,13 @@ module _ {W F : Type 0} (w : Ghosts W) (f : Files F W) where
       (left : Ending F S) : Type 0 where
     pub files : Closes w f root t tree N left.unclosed left.backing.files
     pub source_left : left.backing.source ≡ source
-    pub told : left.outcome ≡ first_fault said left.unclosed
+    pub told : left.outcome ≡ first_life_fault said left.unclosed
 
   -- the history copies replies or doesn't, and may become so long
   module _ {S : Type 0} (fetched : S → Id → Answer → S → Type 0) (copies : Bool) (limit : ℕ) where
     -- The overlay wasn't opened, for that fault: nothing was read or written, and the source wasn't asked.
     pub record IsUnservedInside (base : Base) (backing : Backing F S) (input output : Known × Known) (why : OpenFault) (left : Ending F S) : Type 0 where
-      pub files : IsRefused w f base backing.files why left.backing.files
+      pub files : IsNotOpened w f base backing.files why left.backing.files
       pub source : left.backing.source ≡ backing.source
       pub unread : input.1 ≡ input.0
       pub unwritten : output.1 ≡ output.0

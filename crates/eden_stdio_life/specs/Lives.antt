@@ -18,10 +18,10 @@ use Rattle.eden_stdio_life.specs.Left.{HoldsTheSame, LeavesFiles}
 use Rattle.eden_stdio_life.specs.Ledgers.{LedgerAnswers, ledger}
 
 -- the session's fault is told before that of the close
-abbrev pub first_fault : Result ⊤ SessionFault → Option FilesFault → Result ⊤ LifeFault
-first_fault (Err fault) unclosed = Err (life.Session fault)
-first_fault (Ok _) (Some fault) = Err (life.Close fault)
-first_fault (Ok _) None = Ok tt
+abbrev pub first_life_fault : Result ⊤ SessionFault → Option FilesFault → Result ⊤ LifeFault
+first_life_fault (Err fault) unclosed = Err (life.Session fault)
+first_life_fault (Ok _) (Some fault) = Err (life.Close fault)
+first_life_fault (Ok _) None = Ok tt
 
 -- the history may become so long
 module _ {W F S : Type 0} (w : Ghosts W) (f : Files F W) (fetched : S → Id → Answer → S → Type 0) (limit : ℕ) where
@@ -43,7 +43,7 @@ module _ {W F S : Type 0} (w : Ghosts W) (f : Files F W) (fetched : S → Id →
     pub legal : w.honest → Legal w.opening w.numbers history
     pub served : F
     pub ended : LeavesFiles w f root (replay w.opening history) (replay_numbers w.numbers history) served left.unclosed left.backing.files
-    pub told : left.outcome ≡ first_fault said left.unclosed
+    pub told : left.outcome ≡ first_life_fault said left.unclosed
 
   abbrev pub LivesBy : Result ⊤ LifeFault → Id → Backing F S → Known × Known → Known × Known → Ending F S → Type 0
   LivesBy (Err (life.Open why)) root backing input output left = IsUnserved backing input output left

@@ -6,7 +6,7 @@ use Rattle.eden_model.specs.Backing.{Backs}
 use Rattle.eden_model.specs.Failures.{Rose}
 use Rattle.eden_model.specs.Numbers.{Numbers}
 use Rattle.eden_model.specs.Trees.{Tree}
-use Rattle.eden_cache.specs.Cache.{empty}
+use Rattle.eden_cache.specs.Cache.{empty_cache}
 use Rattle.eden_overlay.specs.declared.files.Files.{Ghosts as Files}
 use Rattle.eden_overlay.specs.declared.files.FilesFault.{FilesFault}
 use Rattle.eden_overlay.specs.declared.files.FilesFault.TheVariants as fault
@@ -29,13 +29,13 @@ module _ {W F : Type 0} (w : Ghosts W) (f : Files F W) where
   -- honest the checkout shows the opening tree, and numbers that back the opening ones.
   pub record IsOpened (base : Base) (settings : Settings) (files : F) (t : Checkout F) : Type 0 where
     pub commit : t.root ≡ base.root
-    pub cache : t.cache ≡ empty settings.entries settings.bytes settings.sizes
+    pub cache : t.cache ≡ empty_cache settings.entries settings.bytes settings.sizes
     pub next : w.honest → Finds base.opening base.root (f.stored files) t.inodes.next
     pub shown : w.honest → shows w f t.inodes ≡ w.opening
     pub backed : IsBacking w.numbers t
 
   -- the files weren't opened so, for that fault, and are as they were
-  pub record IsRefused (base : Base) (files : F) (fault : OpenFault) (left : F) : Type 0 where
+  pub record IsNotOpened (base : Base) (files : F) (fault : OpenFault) (left : F) : Type 0 where
     pub why : IsRefusal base.opening w.honest base.root (f.stored files) (f.failures files) (f.failures left) fault
     pub unchanged : w.honest → f.stored left ≡ f.stored files
 

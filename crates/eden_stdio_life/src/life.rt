@@ -4,7 +4,7 @@ ghost use Rattle.eden_model.specs.Numbers as numbers;
 ghost use Rattle.eden_inode.specs.Tables.{shows};
 ghost use Rattle.eden_checkout.specs.Opening.{MayOpen};
 ghost use Rattle.eden_stdio_life.specs.Inside.{Ends, LivesInside};
-ghost use Rattle.eden_stdio_life.specs.Lives.{Lives, first_fault};
+ghost use Rattle.eden_stdio_life.specs.Lives.{Lives, first_life_fault};
 ghost use Rattle.eden_stdio_life.specs.Opening.{IsBacking};
 
 use crate::fault::LifeFault;
@@ -43,7 +43,7 @@ fn first_fault(
     said: Result<(), SessionFault>,
     unclosed: Option<FilesFault>,
 ) -> Result<(), LifeFault>
-    ensures { result ≡ first_fault said unclosed }
+    ensures { result ≡ first_life_fault said unclosed }
 {
     if let Err(fault) = said {
         return Err(LifeFault::Session(fault));

@@ -1,11 +1,11 @@
 //! A commit's checkout opened over an overlay, with the room of a mount, and closed to it.
 ghost use Rattle.std.specs.Prelude.{◌≡◌, IfOk, IfErr};
-ghost use Rattle.eden_cache.specs.Cache.{empty};
+ghost use Rattle.eden_cache.specs.Cache.{empty_cache};
 ghost use Rattle.eden_model.specs.Numbers as numbers;
 ghost use Rattle.eden_inode.specs.Tables.{shows};
 ghost use Rattle.eden_mount.specs.Settings.{room_for};
 ghost use Rattle.eden_checkout.specs.Opening.{MayOpen};
-ghost use Rattle.eden_stdio_life.specs.Opening.{Closes, IsBacking, IsOpened, IsRefused};
+ghost use Rattle.eden_stdio_life.specs.Opening.{Closes, IsBacking, IsOpened, IsNotOpened};
 
 use eden_cache::ObjectCache;
 use eden_checkout::{Checkout, OpenFault, Opening};
@@ -30,7 +30,7 @@ fn room<A: Allocator + Clone>(
     config: &Config,
 ) -> Result<(Room<A>, ObjectCache<A>), AllocError>
     ensures room { IfOk result (λ r. r.0 ≡ room_for config.now) }
-    ensures cache { IfOk result (λ r. r.1 ≡ empty config.now.entries config.now.bytes config.now.sizes) }
+    ensures cache { IfOk result (λ r. r.1 ≡ empty_cache config.now.entries config.now.bytes config.now.sizes) }
 {
     config.holds();
     let cache = ObjectCache::new(
@@ -58,7 +58,7 @@ pub fn open<W: World, A: Allocator + Clone, F: Files<W>>(
     requires files { W.honest → MayOpen base.opening W.repository W.opening W.numbers base.root (F.stored files) }
     ensures room { IfOk result (λ o. o.0 ≡ room_for config.now) }
     ensures opened { IfOk result (λ o. IsOpened W.World F.Files base config.now files o.1) }
-    ensures refused { IfErr result (λ e. IsRefused W.World F.Files base files e.0 e.1) }
+    ensures refused { IfErr result (λ e. IsNotOpened W.World F.Files base files e.0 e.1) }
 {
     let Ok((room, cache)) = room(alloc, &memory, config) else {
         return Err((OpenFault::Memory, files));

@@ -7,7 +7,7 @@ use Rattle.eden_model.specs.Trees.{Name}
 use Rattle.eden_model.specs.Operations.{name_lt}
 use Rattle.eden_model.specs.Named.{AreRising}
 use Rattle.eden_tree.specs.Directory.{Row}
-use Rattle.eden_tree.specs.Places.{IsAt, IsGap}
+use Rattle.eden_tree.specs.Places.{IsPlaceOf, IsGap}
 use Rattle.eden_tree.proofs.NameOrder.{order, lt-less, lt-equal, lt-greater, equal-≡}
 use Rattle.eden_tree.proofs.RowLemmas.{rises}
 
@@ -31,7 +31,7 @@ module _ (es : List (Name × Row)) (n : Name) (i : ℕ) where
   behind_gap h = cut_filter (λ (r : Name × Row). name_lt n r.0) es i (λ j d lt within. lt-less (get_or es j d).0 n (h.less_before j d lt))
       (λ j d le within. lt-greater (get_or es j d).0 n (h.greater_from j d le within))
 
-  pub behind_at : AreRising (λ r. r.0) es → IsAt es n i → Cut (i + 1)
+  pub behind_at : AreRising (λ r. r.0) es → IsPlaceOf es n i → Cut (i + 1)
   behind_at rising h = cut_filter (λ (r : Name × Row). name_lt n r.0) es (i + 1) fails passes
     where
       there : (d : Name × Row) → (get_or es i d).0 ≡ n

@@ -11,7 +11,7 @@ use Rattle.eden_model.specs.Operations.{name_lt}
 use Rattle.eden_model.specs.Named.{AreRising}
 use Rattle.eden_tree.specs.Directory.{Row, Directory, child_of, row_size, rows_size, directory_size, rows_of, listed, Child, unloaded, loaded, directory_in}
 use Rattle.eden_tree.specs.Rows.{find_row, put_row, drop_row, change_row, set_row, set_at}
-use Rattle.eden_tree.specs.Places.{IsAt}
+use Rattle.eden_tree.specs.Places.{IsPlaceOf}
 use Rattle.eden_tree.specs.Laws.{IsSplit, IsBetween, Splits, PutsBetween}
 use Rattle.eden_tree.proofs.NameOrder.{order, same-≡}
 use Rattle.eden_tree.proofs.Children.{rows_of-listed}
@@ -23,7 +23,7 @@ length-slice_get (a ∷ es) zero e h = omega arith
 length-slice_get (a ∷ es) (suc i) e h = let rest = length-slice_get es i e h in omega (arith, rest)
 
 -- the name there is at that place
-at_position : (es : List (Name × Row)) (i : ℕ) (e : Name × Row) → slice_get es i ≡ Some e → IsAt es e.0 i × (get_or es i e ≡ e)
+at_position : (es : List (Name × Row)) (i : ℕ) (e : Name × Row) → slice_get es i ≡ Some e → IsPlaceOf es e.0 i × (get_or es i e ≡ e)
 at_position es i e h =
     let within = length-slice_get es i e h in
     let read = slice_get-get_or es i e within in

@@ -13,7 +13,7 @@ use Rattle.eden_model.specs.Operations.{name_lt}
 use Rattle.eden_tree.specs.Directory.{Row}
 use Rattle.eden_tree.specs.Rows.{find_row, put_row, drop_row, change_row, set_row, set_at, AreRows}
 use Rattle.eden_model.specs.Named.{AreRising}
-use Rattle.eden_tree.specs.Places.{IsAt, IsGap}
+use Rattle.eden_tree.specs.Places.{IsPlaceOf, IsGap}
 use Rattle.eden_tree.proofs.Rising.{IsBelow, first_below, others, none_rise, joined}
 use Rattle.eden_tree.proofs.NameOrder.{order, same-less, same-equal, same-greater, lt-less, lt-greater, greater-less, less-greater, equal-≡, lt-≡, beyond}
 
@@ -61,10 +61,10 @@ at_here es n mid x lt h d = rw (get_or_default es mid d x lt) h
 
 -- ---- places
 
-before_at : (e : Named) (es : List Named) (n : Name) (i : ℕ) → AreRising (λ r. r.0) (e ∷ es) → IsAt (e ∷ es) n (suc i) → order e.0 n ≡ Less
+before_at : (e : Named) (es : List Named) (n : Name) (i : ℕ) → AreRising (λ r. r.0) (e ∷ es) → IsPlaceOf (e ∷ es) n (suc i) → order e.0 n ≡ Less
 before_at e es n i p h = subst (λ m. order e.0 m ≡ Less) (equal-≡ (get_or es i e).0 n (h.same e)) (rises (e ∷ es) 0 (suc i) e p (omega arith) h.in_range)
 
-at_tail : (e : Named) (es : List Named) (n : Name) (i : ℕ) → IsAt (e ∷ es) n (suc i) → IsAt es n i
+at_tail : (e : Named) (es : List Named) (n : Name) (i : ℕ) → IsPlaceOf (e ∷ es) n (suc i) → IsPlaceOf es n i
 at_tail e es n i h = record { in_range = omega (arith, h.in_range); same = h.same }
 
 gap_tail : (e : Named) (es : List Named) (n : Name) (i : ℕ) → IsGap (e ∷ es) n (suc i) → IsGap es n i
@@ -89,7 +89,7 @@ pub find_row-below : (n : Name) (es : List Named) → IsBelow n es → find_row 
 find_row-below n [] p = refl
 find_row-below n (e ∷ es) p = passed _ _ _ (same-greater e.0 n (less-greater n e.0 p.0)) ∙ find_row-below n es p.1
 
-pub find_row-at : (es : List Named) (n : Name) (i : ℕ) (d : Named) → AreRising (λ r. r.0) es → IsAt es n i → find_row n es ≡ Some (get_or es i d).1
+pub find_row-at : (es : List Named) (n : Name) (i : ℕ) (d : Named) → AreRising (λ r. r.0) es → IsPlaceOf es n i → find_row n es ≡ Some (get_or es i d).1
 find_row-at [] n i d p h = absurd (omega (arith, h.in_range))
 find_row-at (e ∷ es) n zero d p h = chosen _ _ _ (same-equal e.0 n (h.same d))
 find_row-at (e ∷ es) n (suc i) d p h = passed _ _ _ (same-less e.0 n (before_at e es n i p h)) ∙ find_row-at es n i d (others e es p) (at_tail e es n i h)
@@ -99,7 +99,7 @@ find_row-gap es n zero p h = find_row-below n es (gap_below es n p h)
 find_row-gap [] n (suc i) p h = refl
 find_row-gap (e ∷ es) n (suc i) p h = passed _ _ _ (same-less e.0 n (h.less_before 0 e (omega arith))) ∙ find_row-gap es n i (others e es p) (gap_tail e es n i h)
 
-pub key-at : (es : List Named) (n : Name) (i : ℕ) → IsAt es n i → slice_get (keys_of es) i ≡ Some n
+pub key-at : (es : List Named) (n : Name) (i : ℕ) → IsPlaceOf es n i → slice_get (keys_of es) i ≡ Some n
 key-at [] n i h = absurd (omega (arith, h.in_range))
 key-at (e ∷ es) n zero h = ap Some (equal-≡ e.0 n (h.same e))
 key-at (e ∷ es) n (suc i) h = key-at es n i (at_tail e es n i h)
@@ -134,7 +134,7 @@ length-put_row n x (e ∷ es) = elim (name_lt n e.0) as (λ b. length (cond b ((
 
 -- ---- remove
 
-pub remove-at : (es : List Named) (n : Name) (i : ℕ) → AreRising (λ r. r.0) es → IsAt es n i → remove es i ≡ drop_row n es
+pub remove-at : (es : List Named) (n : Name) (i : ℕ) → AreRising (λ r. r.0) es → IsPlaceOf es n i → remove es i ≡ drop_row n es
 remove-at [] n i p h = absurd (omega (arith, h.in_range))
 remove-at (e ∷ es) n zero p h = sym (chosen _ _ _ (same-equal e.0 n (h.same e)))
 remove-at (e ∷ es) n (suc i) p h = ap (λ l. e ∷ l) (remove-at es n i (others e es p) (at_tail e es n i h)) ∙ sym (passed _ _ _ (same-less e.0 n (before_at e es n i p h)))
@@ -170,7 +170,7 @@ length-drop_row n (e ∷ es) h =
 
 -- ---- change
 
-pub set-at : (es : List Named) (n : Name) (i : ℕ) (d : Named) (x : Row) → AreRising (λ r. r.0) es → IsAt es n i → set es i ((get_or es i d).0, x) ≡ set_row n x es
+pub set-at : (es : List Named) (n : Name) (i : ℕ) (d : Named) (x : Row) → AreRising (λ r. r.0) es → IsPlaceOf es n i → set es i ((get_or es i d).0, x) ≡ set_row n x es
 set-at [] n i d x p h = absurd (omega (arith, h.in_range))
 set-at (e ∷ es) n zero d x p h = sym (chosen _ _ _ (same-equal e.0 n (h.same d)))
 set-at (e ∷ es) n (suc i) d x p h = ap (λ l. e ∷ l) (set-at es n i d x (others e es p) (at_tail e es n i h)) ∙ sym (passed _ _ _ (same-less e.0 n (before_at e es n i p h)))
@@ -254,7 +254,7 @@ AreRows-drop_row n es p = record { rising = AreRising-drop_row n es p.rising; fe
 
 -- ---- the entry at a name's place, which was read as x
 
-module _ (es : List Named) (n : Name) (i : ℕ) (x : Named) (p : AreRows es) (h : IsAt es n i) (is : x ≡ get_or es i x) where
+module _ (es : List Named) (n : Name) (i : ℕ) (x : Named) (p : AreRows es) (h : IsPlaceOf es n i) (is : x ≡ get_or es i x) where
   pub found_here : find_row n es ≡ Some x.1
   found_here = find_row-at es n i x p.rising h ∙ ap (λ y. Some y.1) (sym is)
 

@@ -7,7 +7,7 @@ use Rattle.eden_model.specs.Trees.{Name}
 use Rattle.eden_tree.specs.Directory.{Row}
 
 -- the name is at place i
-pub record IsAt (rows : List (Name × Row)) (n : Name) (i : ℕ) : Type 0 where
+pub record IsPlaceOf (rows : List (Name × Row)) (n : Name) (i : ℕ) : Type 0 where
   pub in_range : i < length rows
   pub same : (d : Name × Row) → slice_cmp nat_cmp (slice_index_or rows i d).0 n ≡ Equal
 

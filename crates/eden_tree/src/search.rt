@@ -1,6 +1,6 @@
 ghost use Rattle.std.specs.Prelude.{ℕ, ◌<◌, ◌≤◌, ◌^◌, length, IfOk, IfErr};
 ghost use Rattle.eden_tree.specs.Rows.{AreRows};
-ghost use Rattle.eden_tree.specs.Places.{IsAt, IsGap};
+ghost use Rattle.eden_tree.specs.Places.{IsPlaceOf, IsGap};
 
 use crate::dir::Entry;
 use eden_model::Name;
@@ -16,7 +16,7 @@ pub(crate) struct Found {
 
 pub(crate) fn search<A: Allocator>(items: &[(Name, Entry<A>)], name: &Name) -> Found
     requires { AreRows items.now }
-    ensures found { IfOk result.place (IsAt items.now name.now) }
+    ensures found { IfOk result.place (IsPlaceOf items.now name.now) }
     ensures absent { IfErr result.place (IsGap items.now name.now) }
     ensures compared { (digits : ℕ) → length items.now < 2 ^ digits → result.compared ≤ digits }
 {
@@ -46,7 +46,7 @@ pub(crate) fn search<A: Allocator>(items: &[(Name, Entry<A>)], name: &Name) -> F
 /// Where the name is, or else would go.
 pub(crate) fn place<A: Allocator>(items: &[(Name, Entry<A>)], name: &Name) -> Result<usize, usize>
     requires { AreRows items.now }
-    ensures found { IfOk result (IsAt items.now name.now) }
+    ensures found { IfOk result (IsPlaceOf items.now name.now) }
     ensures absent { IfErr result (IsGap items.now name.now) }
 {
     search(items, name).place

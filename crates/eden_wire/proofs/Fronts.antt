@@ -19,8 +19,8 @@ use Rattle.eden_wire.specs.Names.{is_plain}
 use Rattle.eden_wire.specs.Fields.{Field, field_text, IsField}
 use Rattle.eden_wire.specs.Fields.Field.{of_path, of_number}
 use Rattle.eden_wire.specs.Requests.{spelling}
-use Rattle.eden_wire.specs.Words.{word_text}
-use Rattle.eden_wire.specs.Lines.{Reads}
+use Rattle.eden_wire.specs.Words.{request_word_text}
+use Rattle.eden_wire.specs.Lines.{IsReadAs}
 use Rattle.eden_wire.specs.Sorts.{fields_text, field_refusal, first_refusal}
 use Rattle.eden_wire.specs.Fronts.{NameFirst, FieldFirst, FieldsFirst, Completes}
 use Rattle.eden_wire.specs.declared.request.Item.TheVariants.{Asks}
@@ -135,27 +135,27 @@ fields_unrefused [] text h = refl
 fields_unrefused (f ∷ fields) text h = rw h.1.unrefused (fields_unrefused fields h.0 h.2)
 
 -- the line of a word, a path and the other fields asks for their request
-pub asked_plain : {w : Word} {path : List (List ℕ)} {line text more : List ℕ} {q : Request} → line ≡ word_text w ++ text → FieldFirst (of_path path) text more → Completes w path more q
-    → Reads line (Asks q)
-unfolding Reads
+pub asked_plain : {w : Word} {path : List (List ℕ)} {line text more : List ℕ} {q : Request} → line ≡ request_word_text w ++ text → FieldFirst (of_path path) text more → Completes w path more q
+    → IsReadAs line (Asks q)
+unfolding IsReadAs
 asked_plain {w} {path} {line} {text} {more} {q} begins first so =
     let all : FieldsFirst (of_path path ∷ so.fields) text = (more, first, so.spelled) in
     record {
-      word = word_text w;
+      word = request_word_text w;
       fields = of_path path ∷ so.fields;
       parts = so.parts;
-      text = begins ∙ ap (λ l. word_text w ++ l) (fields_spelled (of_path path ∷ so.fields) text all);
+      text = begins ∙ ap (λ l. request_word_text w ++ l) (fields_spelled (of_path path ∷ so.fields) text all);
       good = fields_good (of_path path ∷ so.fields) text all;
       refused = sym (fields_first (of_path path ∷ so.fields) ∙ fields_unrefused (of_path path ∷ so.fields) text all);
     }
 
-pub completes_none : (w : Word) (path : List (List ℕ)) (text : List ℕ) (q : Request) → text ≡ [] → spelling q ≡ Some (word_text w, of_path path ∷ []) → Completes w path text q
+pub completes_none : (w : Word) (path : List (List ℕ)) (text : List ℕ) (q : Request) → text ≡ [] → spelling q ≡ Some (request_word_text w, of_path path ∷ []) → Completes w path text q
 completes_none w path text q none parts = record { fields = []; parts = parts; spelled = none }
 
-pub completes_one : (w : Word) (path : List (List ℕ)) (text : List ℕ) (q : Request) (f : Field) → spelling q ≡ Some (word_text w, of_path path ∷ f ∷ []) → FieldFirst f text []
+pub completes_one : (w : Word) (path : List (List ℕ)) (text : List ℕ) (q : Request) (f : Field) → spelling q ≡ Some (request_word_text w, of_path path ∷ f ∷ []) → FieldFirst f text []
     → Completes w path text q
 completes_one w path text q f parts first = record { fields = f ∷ []; parts = parts; spelled = ([], first, refl) }
 
-pub completes_two : (w : Word) (path : List (List ℕ)) (text more : List ℕ) (q : Request) (f g : Field) → spelling q ≡ Some (word_text w, of_path path ∷ f ∷ g ∷ [])
+pub completes_two : (w : Word) (path : List (List ℕ)) (text more : List ℕ) (q : Request) (f g : Field) → spelling q ≡ Some (request_word_text w, of_path path ∷ f ∷ g ∷ [])
     → FieldFirst f text more → FieldFirst g more [] → Completes w path text q
 completes_two w path text more q f g parts first second = record { fields = f ∷ g ∷ []; parts = parts; spelled = (more, first, ([], second, refl)) }

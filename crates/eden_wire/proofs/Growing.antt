@@ -3,19 +3,19 @@ use Rattle.std.proofs.Common.{◌≡◌, ℕ, List, [], ◌++◌, take, drop, Bo
 use Rattle.std.proofs.lemmas.Bool.{false≢true}
 use Rattle.std.proofs.KnownBytes.{Appends-kept, Appends-nil, Appends-trans}
 use Rattle.std.specs.Io.KnownBytes.{Appends, Keeps}
-use Rattle.eden_wire.specs.Writing.{WritesFront, Writes, Holds, Grows, Flushed, IsIdle}
+use Rattle.eden_wire.specs.Writing.{WritesFront, WritesText, Holds, HandsOver, Flushed, IsIdle}
 use Rattle.eden_wire.specs.declared.output.WriteFailed.{WriteFailed}
 use Rattle.eden_wire.specs.declared.output.Output.{Output}
 
 -- a text, and then another
-pub grows_then : {w v u : Option (List ℕ)} {o p q : Output} {x y : List ℕ} → Grows w v o p x → Grows v u p q y → Grows w u o q (x ++ y)
+pub grows_then : {w v u : Option (List ℕ)} {o p q : Output} {x y : List ℕ} → HandsOver w v o p x → HandsOver v u p q y → HandsOver w u o q (x ++ y)
 grows_then {u = u} {q = q} {x = x} {y = y} g h = record { after = λ start before held. subst (Holds start u q) (append_assoc before x y) (h.after start (before ++ x) (g.after start before held)) }
 
-pub grows_none : (w : Option (List ℕ)) (o : Output) → Grows w w o o []
+pub grows_none : (w : Option (List ℕ)) (o : Output) → HandsOver w w o o []
 grows_none w o = record { after = λ start before held. subst (Holds start w o) (sym (append-nil before)) held }
 
 -- what was lost after a failed write
-pub grows_lost : (w : Option (List ℕ)) (o p : Output) (text : List ℕ) → p.failed ≡ true → Grows w w o p text
+pub grows_lost : (w : Option (List ℕ)) (o p : Output) (text : List ℕ) → p.failed ≡ true → HandsOver w w o p text
 grows_lost w o p text failed = record {
   after = λ start before held. record {
     sent = held.sent;
@@ -27,7 +27,7 @@ grows_lost w o p text failed = record {
 }
 
 -- what is held
-pub grows_held : (w : Option (List ℕ)) (o p : Output) (text : List ℕ) → p.failed ≡ o.failed → p.pending.items ≡ o.pending.items ++ text → Grows w w o p text
+pub grows_held : (w : Option (List ℕ)) (o p : Output) (text : List ℕ) → p.failed ≡ o.failed → p.pending.items ≡ o.pending.items ++ text → HandsOver w w o p text
 grows_held w o p text failed pending = record {
   after = λ start before held. record {
     sent = held.sent;
@@ -68,13 +68,13 @@ record Passed (w v : Option (List ℕ)) (text : List ℕ) (failed : Bool) : Type
   appends : Appends w v sent
   all : failed ≡ false → rest ≡ []
 
-passed : (w v : Option (List ℕ)) (text : List ℕ) (failed : Bool) (r : Result (Unit {0}) WriteFailed) → Writes w v r text → failed ≡ is_err r → Passed w v text failed
+passed : (w v : Option (List ℕ)) (text : List ℕ) (failed : Bool) (r : Result (Unit {0}) WriteFailed) → WritesText w v r text → failed ≡ is_err r → Passed w v text failed
 passed w v text failed (Ok d) wrote e = record { sent = text; rest = []; whole = sym (append-nil text); appends = wrote; all = λ works. refl }
 passed w v text failed (Err d) wrote e = record { sent = wrote.front; rest = wrote.rest; whole = wrote.whole; appends = wrote.appends; all = λ works. absurd (false≢true (sym works ∙ e)) }
 
 -- what was held was sent
-pub grows_sent : (w v : Option (List ℕ)) (o p : Output) (r : Result (Unit {0}) WriteFailed) → o.failed ≡ false → Writes w v r o.pending.items → p.failed ≡ is_err r → p.pending.items ≡ []
-    → Grows w v o p []
+pub grows_sent : (w v : Option (List ℕ)) (o p : Output) (r : Result (Unit {0}) WriteFailed) → o.failed ≡ false → WritesText w v r o.pending.items → p.failed ≡ is_err r → p.pending.items ≡ []
+    → HandsOver w v o p []
 grows_sent w v o p r works wrote failed empty =
     let part = passed w v o.pending.items p.failed r wrote failed in
     record {
@@ -88,8 +88,8 @@ grows_sent w v o p r works wrote failed empty =
     }
 
 -- bytes were sent where none were held
-pub grows_passed : (w v : Option (List ℕ)) (o p : Output) (text : List ℕ) (r : Result (Unit {0}) WriteFailed) → o.failed ≡ false → o.pending.items ≡ [] → Writes w v r text → p.failed ≡ is_err r
-    → p.pending.items ≡ [] → Grows w v o p text
+pub grows_passed : (w v : Option (List ℕ)) (o p : Output) (text : List ℕ) (r : Result (Unit {0}) WriteFailed) → o.failed ≡ false → o.pending.items ≡ [] → WritesText w v r text → p.failed ≡ is_err r
+    → p.pending.items ≡ [] → HandsOver w v o p text
 grows_passed w v o p text r works none wrote failed empty =
     let part = passed w v text p.failed r wrote failed in
     record {
@@ -115,7 +115,7 @@ pub holds_front : (start now : Option (List ℕ)) (o : Output) (text : List ℕ)
 holds_front start now o text held = record { front = held.sent; rest = held.rest; whole = held.whole; appends = held.appends }
 
 -- the same after an exact growth by nothing
-pub holds_on : (start w v : Option (List ℕ)) (o p : Output) (text : List ℕ) → Holds start w o text → Grows w v o p [] → Holds start v p text
+pub holds_on : (start w v : Option (List ℕ)) (o p : Output) (text : List ℕ) → Holds start w o text → HandsOver w v o p [] → Holds start v p text
 holds_on start w v o p text held g = subst (Holds start v p) (append-nil text) (g.after start text held)
 
 pub front_kept : (start now end : Option (List ℕ)) (text : List ℕ) → WritesFront start now text → Keeps now end → WritesFront start end text
@@ -126,7 +126,7 @@ pub flushed_idle : (w : Option (List ℕ)) (o : Output) → IsIdle o → Flushed
 flushed_idle w o idle = record { written = λ start before held. holds_all start w o before held idle; idle = idle; worked = idle.working }
 
 -- what was held is written
-pub flushed_all : (w v u : Option (List ℕ)) (o p : Output) → Grows w v o p [] → IsIdle p → o.failed ≡ false → Keeps v u → Flushed w u o p (Ok tt)
+pub flushed_all : (w v u : Option (List ℕ)) (o p : Output) → HandsOver w v o p [] → IsIdle p → o.failed ≡ false → Keeps v u → Flushed w u o p (Ok tt)
 flushed_all w v u o p g idle works kept = record {
   written = λ start before held. Appends-kept start v u before (holds_all start v p before (holds_on start w v o p before held g) idle) kept;
   idle = idle;
@@ -134,7 +134,7 @@ flushed_all w v u o p g idle works kept = record {
 }
 
 -- a write failed
-pub flushed_front : (w v u : Option (List ℕ)) (o p : Output) (d : WriteFailed) → Grows w v o p [] → Keeps v u → Flushed w u o p (Err d)
+pub flushed_front : (w v u : Option (List ℕ)) (o p : Output) (d : WriteFailed) → HandsOver w v o p [] → Keeps v u → Flushed w u o p (Err d)
 flushed_front w v u o p d g kept = record {
   written = λ start before held. front_kept start v u before (holds_front start v p before (holds_on start w v o p before held g)) kept;
   idle = tt;
@@ -142,5 +142,5 @@ flushed_front w v u o p d g kept = record {
 }
 
 -- the same text in other words
-pub grows_as : {w v : Option (List ℕ)} {o p : Output} {x y : List ℕ} → x ≡ y → Grows w v o p x → Grows w v o p y
-grows_as {w = w} {v = v} {o = o} {p = p} e g = subst (Grows w v o p) e g
+pub grows_as : {w v : Option (List ℕ)} {o p : Output} {x y : List ℕ} → x ≡ y → HandsOver w v o p x → HandsOver w v o p y
+grows_as {w = w} {v = v} {o = o} {p = p} e g = subst (HandsOver w v o p) e g

@@ -8,13 +8,13 @@ use Rattle.std.specs.Str.{bytes_eq}
 use Rattle.eden_model.specs.declared.errno.Errno.{Errno}
 use Rattle.eden_model.specs.declared.request.Request.{Request}
 use Rattle.eden_model.specs.declared.request.Request.TheVariants as request
-use Rattle.eden_wire.specs.Words.{word_text, shape_of}
+use Rattle.eden_wire.specs.Words.{request_word_text, shape_of}
 use Rattle.eden_wire.specs.Fields.{Field, IsField, field_text, refusals}
 use Rattle.eden_wire.specs.Fields.Field.{of_path, of_number, of_bit, of_data, of_after}
 use Rattle.eden_wire.specs.Requests.{spelling, Spells}
 use Rattle.eden_wire.specs.Splits.{Lacks, IsCutAt, IsFirstPart}
 use Rattle.eden_wire.specs.Scans.{SpellNoFields, ScansFields, SpellsFields, SpellsRequest, NextIs, LastIs, Takes}
-use Rattle.eden_wire.specs.Lines.{Reads, AsksSome, OneItem, NoLinePatches}
+use Rattle.eden_wire.specs.Lines.{IsReadAs, AsksSome, OneItem, NoLinePatches}
 use Rattle.eden_wire.specs.Sorts.{sort_of, AreFields, fields_text, field_refusal, first_refusal}
 use Rattle.eden_wire.specs.declared.request.Item.TheVariants.{Asks, Refuses, Bad}
 use Rattle.eden_wire.specs.declared.word.Sort.{Sort}
@@ -33,10 +33,10 @@ words =
 
 -- the word of that text
 abbrev read_word : List ℕ → Option Word
-read_word text = find (λ w. bytes_eq text (word_text w)) words
+read_word text = find (λ w. bytes_eq text (request_word_text w)) words
 
 -- each word is read as itself
-word_read : (w : Word) → read_word (word_text w) ≡ Some w
+word_read : (w : Word) → read_word (request_word_text w) ≡ Some w
 word_read word.Kind = refl
 word_read word.Stat = refl
 word_read word.Read = refl
@@ -61,23 +61,23 @@ lacks_by_test (b ∷ text) h = let both = neither (b == 32) (list_any (λ c. c =
     neither true q g = absurd (false≢true (sym g))
     neither false q g = (refl, g)
 
-word_lacks : (w : Word) → Lacks 32 (word_text w)
-word_lacks word.Kind = lacks_by_test (word_text word.Kind) refl
-word_lacks word.Stat = lacks_by_test (word_text word.Stat) refl
-word_lacks word.Read = lacks_by_test (word_text word.Read) refl
-word_lacks word.ReadLink = lacks_by_test (word_text word.ReadLink) refl
-word_lacks word.List = lacks_by_test (word_text word.List) refl
-word_lacks word.Write = lacks_by_test (word_text word.Write) refl
-word_lacks word.Truncate = lacks_by_test (word_text word.Truncate) refl
-word_lacks word.Create = lacks_by_test (word_text word.Create) refl
-word_lacks word.SetExec = lacks_by_test (word_text word.SetExec) refl
-word_lacks word.Mkdir = lacks_by_test (word_text word.Mkdir) refl
-word_lacks word.Symlink = lacks_by_test (word_text word.Symlink) refl
-word_lacks word.Unlink = lacks_by_test (word_text word.Unlink) refl
-word_lacks word.Rmdir = lacks_by_test (word_text word.Rmdir) refl
-word_lacks word.Rename = lacks_by_test (word_text word.Rename) refl
+word_lacks : (w : Word) → Lacks 32 (request_word_text w)
+word_lacks word.Kind = lacks_by_test (request_word_text word.Kind) refl
+word_lacks word.Stat = lacks_by_test (request_word_text word.Stat) refl
+word_lacks word.Read = lacks_by_test (request_word_text word.Read) refl
+word_lacks word.ReadLink = lacks_by_test (request_word_text word.ReadLink) refl
+word_lacks word.List = lacks_by_test (request_word_text word.List) refl
+word_lacks word.Write = lacks_by_test (request_word_text word.Write) refl
+word_lacks word.Truncate = lacks_by_test (request_word_text word.Truncate) refl
+word_lacks word.Create = lacks_by_test (request_word_text word.Create) refl
+word_lacks word.SetExec = lacks_by_test (request_word_text word.SetExec) refl
+word_lacks word.Mkdir = lacks_by_test (request_word_text word.Mkdir) refl
+word_lacks word.Symlink = lacks_by_test (request_word_text word.Symlink) refl
+word_lacks word.Unlink = lacks_by_test (request_word_text word.Unlink) refl
+word_lacks word.Rmdir = lacks_by_test (request_word_text word.Rmdir) refl
+word_lacks word.Rename = lacks_by_test (request_word_text word.Rename) refl
 
-word_same : (v w : Word) → word_text v ≡ word_text w → v ≡ w
+word_same : (v w : Word) → request_word_text v ≡ request_word_text w → v ≡ w
 word_same v w e = let both : Some v ≡ Some w = sym (word_read v) ∙ ap read_word e ∙ word_read w in cc
 
 -- ---- requests by word and fields
@@ -85,10 +85,10 @@ word_same v w e = let both : Some v ≡ Some w = sym (word_read v) ∙ ap read_w
 -- a request of this word with these fields
 record Made (w : Word) (fields : List Field) : Type 0 where
   value : Request
-  parts : spelling value ≡ Some (word_text w, fields)
+  parts : spelling value ≡ Some (request_word_text w, fields)
 
-made_as : (w : Word) (fields others : List Field) (q : Request) → spelling q ≡ Some (word_text w, fields) → fields ≡ others → Made w others
-made_as w fields others q parts same = record { value = q; parts = parts ∙ ap (λ l. Some (word_text w, l)) same }
+made_as : (w : Word) (fields others : List Field) (q : Request) → spelling q ≡ Some (request_word_text w, fields) → fields ≡ others → Made w others
+made_as w fields others q parts same = record { value = q; parts = parts ∙ ap (λ l. Some (request_word_text w, l)) same }
 
 path_of : (f : Field) → sort_of f ≡ sort.Path → (path : List (List ℕ)) × (of_path path ≡ f)
 path_of (of_path path) s = (path, refl)
@@ -129,7 +129,7 @@ three s t (f ∷ g ∷ []) h = absurd h.2.2
 three s t (f ∷ g ∷ k ∷ []) h = let x = path_of f h.0 in (x.0, g, k, h.2.0, h.2.2.0, ap (λ v. v ∷ g ∷ k ∷ []) x.1)
 three s t (f ∷ g ∷ k ∷ l ∷ fields) h = absurd h.2.2.2
 
-by_path : (w : Word) (make : List (List ℕ) → Request) → ((path : List (List ℕ)) → spelling (make path) ≡ Some (word_text w, of_path path ∷ [])) → (fields : List Field)
+by_path : (w : Word) (make : List (List ℕ) → Request) → ((path : List (List ℕ)) → spelling (make path) ≡ Some (request_word_text w, of_path path ∷ [])) → (fields : List Field)
     → AreFields (sort.Path ∷ []) fields → Made w fields
 by_path w make parts fields h = let x = one fields h in made_as w (of_path x.0 ∷ []) fields (make x.0) (parts x.0) x.1
 
@@ -195,7 +195,7 @@ request_of w fields = None
 -- what a request's line begins with is a word, and the fields behind it are of the word's sorts
 record Worded (q : Request) (text : List ℕ) (fields : List Field) : Type 0 where
   word : Word
-  text_is : text ≡ word_text word
+  text_is : text ≡ request_word_text word
   sorts : AreFields (shape_of word) fields
   back : request_of word fields ≡ Some q
 
@@ -207,7 +207,7 @@ own_sorts : (fields : List Field) → AllByRecursion IsField fields → AreField
 own_sorts [] h = tt
 own_sorts (f ∷ fields) h = (refl, h.0, own_sorts fields h.1)
 
-worded_by : (q : Request) (w : Word) (fields : List Field) → map sort_of fields ≡ shape_of w → request_of w fields ≡ Some q → AllByRecursion IsField fields → Worded q (word_text w) fields
+worded_by : (q : Request) (w : Word) (fields : List Field) → map sort_of fields ≡ shape_of w → request_of w fields ≡ Some q → AllByRecursion IsField fields → Worded q (request_word_text w) fields
 worded_by q w fields same back h = record { word = w; text_is = refl; sorts = subst (λ l. AreFields l fields) same (own_sorts fields h); back = back }
 
 is_worded : (q : Request) → IsWorded q (spelling q)
@@ -296,7 +296,8 @@ three_fields f g k text a b d scan first second third = whole_more f (sort_of g 
     (two_fields g k a b d (first.on (sort_of g ∷ sort_of k ∷ []) scan) second third)
 
 -- a request was built from its word and fields
-pub builds : (word : Word) (text : List ℕ) (q : Request) (fields : List Field) → spelling q ≡ Some (word_text word, fields) → SpellsFields (shape_of word) text fields → SpellsRequest word text q
+pub builds : (word : Word) (text : List ℕ) (q : Request) (fields : List Field) → spelling q ≡ Some (request_word_text word, fields)
+    → SpellsFields (shape_of word) text fields → SpellsRequest word text q
 builds word text q fields parts spelled = record { fields = fields; parts = parts; spelled = spelled }
 
 -- ---- what a line is
@@ -318,22 +319,23 @@ fields_cut : (fields : List Field) → IsCutAt 32 (fields_text fields)
 fields_cut [] = tt
 fields_cut (f ∷ fields) = refl
 
-line_parts : (line first rest : List ℕ) (w : Word) (fields : List Field) → Cut line first rest → line ≡ word_text w ++ fields_text fields → (first ≡ word_text w) × (rest ≡ fields_text fields)
-line_parts line first rest w fields cut e = first_part 32 first (word_text w) rest (fields_text fields) cut.plain (word_lacks w) cut.cut (fields_cut fields) (sym cut.whole ∙ e)
+line_parts : (line first rest : List ℕ) (w : Word) (fields : List Field) → Cut line first rest → line ≡ request_word_text w ++ fields_text fields
+    → (first ≡ request_word_text w) × (rest ≡ fields_text fields)
+line_parts line first rest w fields cut e = first_part 32 first (request_word_text w) rest (fields_text fields) cut.plain (word_lacks w) cut.cut (fields_cut fields) (sym cut.whole ∙ e)
 
 -- the word and the fields of a line that spells a request
 spelled_parts : (line first rest : List ℕ) (q : Request) (refusal : Option Errno) → Cut line first rest → (s : Spells q line refusal) → (let w = (worded q line refusal s).word in
-    (first ≡ word_text w) × (rest ≡ fields_text s.fields))
+    (first ≡ request_word_text w) × (rest ≡ fields_text s.fields))
 spelled_parts line first rest q refusal cut s =
     let w = worded q line refusal s in
     line_parts line first rest w.word s.fields cut (s.text ∙ ap (λ l. l ++ fields_text s.fields) w.text_is)
 
-pub no_word : (line first rest : List ℕ) → Cut line first rest → ((w : Word) → first ≢ word_text w) → Reads line Bad
-unfolding Reads
+pub no_word : (line first rest : List ℕ) → Cut line first rest → ((w : Word) → first ≢ request_word_text w) → IsReadAs line Bad
+unfolding IsReadAs
 no_word line first rest cut none q refusal s = none (worded q line refusal s).word (spelled_parts line first rest q refusal cut s).0
 
-pub no_fields : (line first rest : List ℕ) (w : Word) → Cut line first rest → first ≡ word_text w → SpellNoFields (shape_of w) rest → Reads line Bad
-unfolding Reads
+pub no_fields : (line first rest : List ℕ) (w : Word) → Cut line first rest → first ≡ request_word_text w → SpellNoFields (shape_of w) rest → IsReadAs line Bad
+unfolding IsReadAs
 no_fields line first rest w cut is none q refusal s =
     let own = worded q line refusal s in
     let parts = spelled_parts line first rest q refusal cut s in
@@ -341,35 +343,36 @@ no_fields line first rest w cut is none q refusal s =
     none s.fields (subst (λ v. AreFields (shape_of v) s.fields) same own.sorts) parts.1
 
 -- a request of a line's word and fields
-asks : (line first rest : List ℕ) (w : Word) (refusal : Option Errno) (q : Request) → Cut line first rest → first ≡ word_text w → ScansFields (shape_of w) rest refusal
+asks : (line first rest : List ℕ) (w : Word) (refusal : Option Errno) (q : Request) → Cut line first rest → first ≡ request_word_text w → ScansFields (shape_of w) rest refusal
     → SpellsRequest w rest q → Spells q line refusal
 asks line first rest w refusal q cut is scan so =
     let same = fields_same (shape_of w) scan.fields so.fields scan.good so.spelled.good (sym scan.spelled ∙ so.spelled.whole) in
     record {
-      word = word_text w;
+      word = request_word_text w;
       fields = so.fields;
       parts = so.parts;
-      text = cut.whole ∙ ap (λ l. l ++ rest) is ∙ ap (λ l. word_text w ++ l) so.spelled.whole;
+      text = cut.whole ∙ ap (λ l. l ++ rest) is ∙ ap (λ l. request_word_text w ++ l) so.spelled.whole;
       good = are_good (shape_of w) so.fields so.spelled.good;
       refused = scan.refused ∙ ap (first_refusal field_refusal) same ∙ sym (fields_first so.fields);
     }
 
-scanned : (line first rest : List ℕ) (w : Word) (refusal : Option Errno) → Cut line first rest → first ≡ word_text w → ScansFields (shape_of w) rest refusal
+scanned : (line first rest : List ℕ) (w : Word) (refusal : Option Errno) → Cut line first rest → first ≡ request_word_text w → ScansFields (shape_of w) rest refusal
     → (q : Request) × Spells q line refusal
 scanned line first rest w refusal cut is scan =
     let m = made w scan.fields scan.good in
     (m.value, asks line first rest w refusal m.value cut is scan (builds w rest m.value scan.fields m.parts record { good = scan.good; whole = scan.spelled }))
 
-pub refused : (line first rest : List ℕ) (w : Word) (e : Errno) → Cut line first rest → first ≡ word_text w → ScansFields (shape_of w) rest (Some e) → Reads line (Refuses e)
-unfolding Reads
+pub refused : (line first rest : List ℕ) (w : Word) (e : Errno) → Cut line first rest → first ≡ request_word_text w → ScansFields (shape_of w) rest (Some e) → IsReadAs line (Refuses e)
+unfolding IsReadAs
 refused line first rest w e cut is scan = scanned line first rest w (Some e) cut is scan
 
-pub asked : (line first rest : List ℕ) (w : Word) (q : Request) → Cut line first rest → first ≡ word_text w → ScansFields (shape_of w) rest None → SpellsRequest w rest q → Reads line (Asks q)
-unfolding Reads
+pub asked : (line first rest : List ℕ) (w : Word) (q : Request) → Cut line first rest → first ≡ request_word_text w → ScansFields (shape_of w) rest None
+    → SpellsRequest w rest q → IsReadAs line (Asks q)
+unfolding IsReadAs
 asked line first rest w q cut is scan so = asks line first rest w None q cut is scan so
 
-pub asks_some : (line first rest : List ℕ) (w : Word) → Cut line first rest → first ≡ word_text w → ScansFields (shape_of w) rest None → AsksSome line
-unfolding Reads
+pub asks_some : (line first rest : List ℕ) (w : Word) → Cut line first rest → first ≡ request_word_text w → ScansFields (shape_of w) rest None → AsksSome line
+unfolding IsReadAs
 asks_some line first rest w cut is scan = scanned line first rest w None cut is scan
 
 -- ---- a line has one item
@@ -379,7 +382,7 @@ one_spelling : (q r : Request) (line : List ℕ) (x y : Option Errno) → Spells
 one_spelling q r line x y h k =
     let v = worded q line x h in
     let w = worded r line y k in
-    let (begins, ends) = first_part 32 (word_text v.word) (word_text w.word) (fields_text h.fields) (fields_text k.fields) (word_lacks v.word) (word_lacks w.word) (fields_cut h.fields)
+    let (begins, ends) = first_part 32 (request_word_text v.word) (request_word_text w.word) (fields_text h.fields) (fields_text k.fields) (word_lacks v.word) (word_lacks w.word) (fields_cut h.fields)
     (fields_cut k.fields) (ap (λ l. l ++ fields_text h.fields) (sym v.text_is) ∙ sym h.text ∙ k.text ∙ ap (λ l. l ++ fields_text k.fields) w.text_is) in
     let same : v.word ≡ w.word = word_same v.word w.word begins in
     let all : h.fields ≡ k.fields = fields_same (shape_of w.word) h.fields k.fields (subst (λ u. AreFields (shape_of u) h.fields) same v.sorts) w.sorts ends in
@@ -387,11 +390,11 @@ one_spelling q r line x y h k =
     (cc, h.refused ∙ ap (λ l. slice_get (flat_map refusals l) 0) all ∙ sym k.refused)
 
 pub no_line_patches : NoLinePatches
-unfolding Reads
+unfolding IsReadAs
 no_line_patches line path offset bytes h = let some : spelling (request.Patch path offset bytes) ≡ Some (h.word, h.fields) = h.parts in cc
 
 pub one_item : OneItem
-unfolding Reads
+unfolding IsReadAs
 one_item line (Asks q) (Asks r) h k = ap Asks (one_spelling q r line None None h k).0
 one_item line (Asks q) (Refuses e) h k = absurd (let f = (one_spelling q k.0 line None (Some e) h k.1).1 in cc)
 one_item line (Asks q) Bad h k = absurd (k q None h)

@@ -11,7 +11,7 @@ use Rattle.eden_wire.specs.Replies.{error_text}
 use Rattle.eden_wire.specs.Lines.{longest_line, Lines, Ends}
 use Rattle.eden_wire.specs.Lines.Ends.{whole, cut}
 use Rattle.eden_wire.specs.Reading.{ReadSome}
-use Rattle.eden_wire.specs.Writing.{WritesFront, Writes, IsIdle}
+use Rattle.eden_wire.specs.Writing.{WritesFront, WritesText, IsIdle}
 use Rattle.eden_wire.specs.Serving.{Answering, Known, texts, Serves, Said, Session}
 use Rattle.eden_wire.specs.Turns.{IsBadEnd, Answered, Ended}
 use Rattle.eden_wire.specs.declared.request.Item.{Item}
@@ -32,7 +32,7 @@ front_then o p q x y done w = record {
 }
 
 -- a text was written, and then another, or at an error a beginning of it
-writes_then : {T E : Type 0} (r : Result T E) (o p q : Known) (x y : List ℕ) → Appends o p x → Writes p q r y → Writes o q r (x ++ y)
+writes_then : {T E : Type 0} (r : Result T E) (o p q : Known) (x y : List ℕ) → Appends o p x → WritesText p q r y → WritesText o q r (x ++ y)
 writes_then (Ok v) o p q x y done wrote = Appends-trans o p q x y done wrote
 writes_then (Err e) o p q x y done wrote = front_then o p q x y done wrote
 
@@ -188,8 +188,8 @@ module _ {S : Type 0} {answers : Answering S} {service : S × S} {input written 
 module _ {S : Type 0} {answers : Answering S} {service : S × S} {input : Known × Known} {o p q : Known} {output : Output} where
   -- the session ends with the input, and something more may be said
   session_last : {rest : List ℕ} (so : Through answers service input (o, p) output rest (Ok true)) (last : List Item)
-      → Serves answers service.1 last [] service.1 → (ends : Result ⊤ SessionFault) → Writes p q ends (texts last [])
-      → ((text : List ℕ) → Writes o q ends text → Said ends so.read last rest input.1 (o, q) text) → Session answers service input (o, q) ends
+      → Serves answers service.1 last [] service.1 → (ends : Result ⊤ SessionFault) → WritesText p q ends (texts last [])
+      → ((text : List ℕ) → WritesText o q ends text → Said ends so.read last rest input.1 (o, q) text) → Session answers service input (o, q) ends
   session_last {rest} so last serves ends more says =
       let a = so.answered in
       let (served, wrote) = no_last a in

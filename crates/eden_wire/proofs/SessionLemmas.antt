@@ -9,7 +9,7 @@ use Rattle.eden_model.specs.declared.fault.CallFault.{CallFault}
 use Rattle.eden_wire.specs.Replies.{error_text}
 use Rattle.eden_wire.specs.Lines.{longest_line, Lines, IsLine, IsOneLine, IsLineOf}
 use Rattle.eden_wire.specs.Lines.Ends.{unreadable, too_long}
-use Rattle.eden_wire.specs.Writing.{Grows, Flushed, IsIdle}
+use Rattle.eden_wire.specs.Writing.{HandsOver, Flushed, IsIdle}
 use Rattle.eden_wire.specs.Serving.{Answering, Known, texts, Serves}
 use Rattle.eden_wire.specs.Turns.{Turn, Goes, IsBadEnd, Run, RunLeft, Answered, Left}
 use Rattle.eden_wire.specs.declared.request.Item.{Item}
@@ -58,7 +58,7 @@ module _ {S : Type 0} (answers : Answering S) where
 module _ {S : Type 0} {answers : Answering S} where
   -- one line and its text
   pub turn_of : {on : Bool} {s t : S} {w v : Known} {o p : Output} {line text : List ℕ} (item : Item) (given : Given) → Goes on item → IsLine line item
-      → texts (item ∷ []) given ≡ text ++ [] → Serves answers s (item ∷ []) given t → Grows w v o p text → Turn answers s t w v o p line on
+      → texts (item ∷ []) given ≡ text ++ [] → Serves answers s (item ∷ []) given t → HandsOver w v o p text → Turn answers s t w v o p line on
   turn_of {text = text} item given goes is_line whole served grew = record {
     item = item;
     given = given;
@@ -75,7 +75,7 @@ module _ {S : Type 0} (answers : Answering S) where
     pub given : Given
     pub lines : Lines bytes items (drop used bytes)
     pub served : Serves answers service.0 items given service.1
-    pub grew : Grows written.0 written.1 output.0 output.1 (texts items given)
+    pub grew : HandsOver written.0 written.1 output.0 output.1 (texts items given)
 
 module _ {S : Type 0} {answers : Answering S} where
   pub lined_none : {s : S} {w : Known} {o : Output} {bytes : List ℕ} → Lined answers (s, s) (w, w) (o, o) bytes 0
@@ -103,7 +103,7 @@ line_ends rest cut bad same = rw same bad
 module _ {S : Type 0} {answers : Answering S} {s t u : S} {w v x : Known} {o p q : Output} {bytes after : List ℕ} {used : ℕ} where
   -- a last line was answered, which ends the session
   run_last : (later : Given) → Lined answers (s, t) (w, v) (o, p) bytes used → IsBadEnd (drop used bytes) → Serves answers t (Bad ∷ []) later u
-      → Grows v x p q (texts (Bad ∷ []) later) → Run answers s u w x o q bytes after false
+      → HandsOver v x p q (texts (Bad ∷ []) later) → Run answers s u w x o q bytes after false
   run_last later so bad served grew = record {
     items = so.items;
     last = Bad ∷ [];
@@ -125,7 +125,7 @@ module _ {S : Type 0} {answers : Answering S} {s t u : S} {w v x : Known} {o p q
 
 module _ {S : Type 0} {answers : Answering S} {s t : S} {w v x : Known} {o p q : Output} {bytes after : List ℕ} {used : ℕ} where
   -- a line is too long, so that the service isn't asked
-  pub run_badly : Lined answers (s, t) (w, v) (o, p) bytes used → IsBadEnd (drop used bytes) → Grows v x p q (error_text EPROTO)
+  pub run_badly : Lined answers (s, t) (w, v) (o, p) bytes used → IsBadEnd (drop used bytes) → HandsOver v x p q (error_text EPROTO)
       → Run answers s t w x o q bytes after false
   run_badly so bad grew = run_last [] so bad refl (grows_as (sym (append-nil (error_text EPROTO))) grew)
 

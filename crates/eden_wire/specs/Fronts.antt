@@ -6,7 +6,7 @@ use Rattle.eden_wire.specs.Names.{name_text, IsComponent}
 use Rattle.eden_wire.specs.Fields.{Field, field_text, IsField}
 use Rattle.eden_wire.specs.Fields.Field.{of_path}
 use Rattle.eden_wire.specs.Requests.{spelling}
-use Rattle.eden_wire.specs.Words.{word_text}
+use Rattle.eden_wire.specs.Words.{request_word_text}
 use Rattle.eden_wire.specs.Sorts.{field_refusal}
 use Rattle.eden_wire.specs.declared.word.Word.{Word}
 
@@ -31,5 +31,5 @@ FieldsFirst (f ∷ fields) text = (rest : List ℕ) × FieldFirst f text rest ×
 -- the request has this word and this path, and the text is that of its other fields
 pub record Completes (word : Word) (path : List (List ℕ)) (text : List ℕ) (q : Request) : Type 0 where
   pub fields : List Field
-  pub parts : spelling q ≡ Some (word_text word, of_path path ∷ fields)
+  pub parts : spelling q ≡ Some (request_word_text word, of_path path ∷ fields)
   pub spelled : FieldsFirst fields text

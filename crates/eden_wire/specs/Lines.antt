@@ -16,22 +16,22 @@ abbrev pub longest_line : ℕ
 longest_line = 150000
 
 -- what a line is: a request, a request whose names aren't names, or neither
-unfoldable pub Reads : List ℕ → Item → Type 0
-Reads line (Asks q) = Spells q line None
-Reads line (Refuses e) = (q : Request) × Spells q line (Some e)
-Reads line Bad = (q : Request) (refusal : Option Errno) → ¬ Spells q line refusal
+unfoldable pub IsReadAs : List ℕ → Item → Type 0
+IsReadAs line (Asks q) = Spells q line None
+IsReadAs line (Refuses e) = (q : Request) × Spells q line (Some e)
+IsReadAs line Bad = (q : Request) (refusal : Option Errno) → ¬ Spells q line refusal
 
 -- the line is a request
 abbrev pub AsksSome : List ℕ → Type 0
-AsksSome line = (q : Request) × Reads line (Asks q)
+AsksSome line = (q : Request) × IsReadAs line (Asks q)
 
 -- a line is one item
 abbrev pub OneItem : Type 0
-OneItem = (line : List ℕ) (x y : Item) → Reads line x → Reads line y → x ≡ y
+OneItem = (line : List ℕ) (x y : Item) → IsReadAs line x → IsReadAs line y → x ≡ y
 
 -- no line asks for a patch
 abbrev pub NoLinePatches : Type 0
-NoLinePatches = (line : List ℕ) (path : Path) (offset : ℕ) (bytes : List ℕ) → ¬ Reads line (Asks (request.Patch path offset bytes))
+NoLinePatches = (line : List ℕ) (path : Path) (offset : ℕ) (bytes : List ℕ) → ¬ IsReadAs line (Asks (request.Patch path offset bytes))
 
 -- no line feed among the bytes
 abbrev pub IsOneLine : List ℕ → Type 0
@@ -45,7 +45,7 @@ pub record IsLineOf (bytes : List ℕ) (n : ℕ) : Type 0 where
 
 -- a line that is such an item
 abbrev pub IsLine : List ℕ → Item → Type 0
-IsLine line item = IsOneLine line × (length line ≤ longest_line) × Reads line item
+IsLine line item = IsOneLine line × (length line ≤ longest_line) × IsReadAs line item
 
 -- the bytes are lines that are these items, after which the session goes on, and then the rest
 abbrev pub Lines : List ℕ → List Item → List ℕ → Type 0

@@ -13,7 +13,7 @@ use Rattle.eden_wire.specs.Names.{name_text, IsComponent, AreBytes}
 use Rattle.eden_wire.specs.Fields.{Field, field_text, IsField}
 use Rattle.eden_wire.specs.Fields.Field.{of_path, of_after}
 use Rattle.eden_wire.specs.Requests.{spelling}
-use Rattle.eden_wire.specs.Words.{word_text, shape_of}
+use Rattle.eden_wire.specs.Words.{request_word_text, shape_of}
 use Rattle.eden_wire.specs.Sorts.{path_text, hex_text, after_text, fields_text, IsAfter, sort_of, AreFields, field_refusal, first_refusal}
 use Rattle.eden_wire.specs.declared.word.Word.{Word}
 use Rattle.eden_wire.specs.declared.word.Sort.{Sort}
@@ -101,7 +101,7 @@ pub record SpellsFields (sorts : List Sort) (text : List ℕ) (fields : List Fie
 -- the request has this word, and the text is that of its fields
 pub record SpellsRequest (word : Word) (text : List ℕ) (q : Request) : Type 0 where
   pub fields : List Field
-  pub parts : spelling q ≡ Some (word_text word, fields)
+  pub parts : spelling q ≡ Some (request_word_text word, fields)
   pub spelled : SpellsFields (shape_of word) text fields
 
 -- a field of this sort comes next, and nothing is refused

@@ -6,7 +6,7 @@ use Rattle.eden_model.specs.declared.reply.Reply.{Reply}
 use Rattle.eden_model.specs.declared.fault.CallFault.{CallFault}
 use Rattle.eden_wire.specs.Replies.{error_text}
 use Rattle.eden_wire.specs.Lines.{longest_line, Lines, IsOneLine, IsLine, Ends}
-use Rattle.eden_wire.specs.Writing.{WritesFront, Writes, Grows, IsIdle}
+use Rattle.eden_wire.specs.Writing.{WritesFront, WritesText, HandsOver, IsIdle}
 use Rattle.eden_wire.specs.Serving.{Answering, Known, texts, Serves}
 use Rattle.eden_wire.specs.declared.request.Item.{Item}
 use Rattle.eden_wire.specs.declared.request.Item.TheVariants.{Bad}
@@ -27,7 +27,7 @@ pub record Turn {S : Type 0} (answers : Answering S) (s t : S) (w v : Known) (o 
   pub is_line : IsLine line item
   pub goes : Goes on item
   pub served : Serves answers s (item ∷ []) given t
-  pub grew : Grows w v o p (texts (item ∷ []) given)
+  pub grew : HandsOver w v o p (texts (item ∷ []) given)
 
 -- the bytes begin with a line that ends the session, whatever is unread
 abbrev pub IsBadEnd : List ℕ → Type 0
@@ -47,7 +47,7 @@ pub record Run {S : Type 0} (answers : Answering S) (s t : S) (w v : Known) (o p
   pub lines : Lines bytes items rest
   pub left : RunLeft on p last rest after
   pub served : Serves answers s (items ++ last) given t
-  pub grew : Grows w v o p (texts (items ++ last) given)
+  pub grew : HandsOver w v o p (texts (items ++ last) given)
 
 -- what is left after their answers were written out
 abbrev pub Left : Result Bool WriteFailed → List Item → List ℕ → List ℕ → Type 0
@@ -65,7 +65,7 @@ pub record Answered {S : Type 0} (answers : Answering S) (s t : S) (old new : Kn
   pub lines : Lines bytes items rest
   pub left : Left r last rest after
   pub served : Serves answers s (items ++ last) given t
-  pub wrote : Writes old new r (texts (items ++ last) given)
+  pub wrote : WritesText old new r (texts (items ++ last) given)
   pub idle : OnOk r (IsIdle output)
 
 -- what is said at the end of the input

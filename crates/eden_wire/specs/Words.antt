@@ -5,21 +5,21 @@ use Rattle.eden_wire.specs.declared.word.Word.TheVariants as word
 use Rattle.eden_wire.specs.declared.word.Sort.{Sort}
 use Rattle.eden_wire.specs.declared.word.Sort.TheVariants.{Path, Number, Bit, Data, After}
 
-abbrev pub word_text : Word → List ℕ
-word_text word.Kind = codes "kind"
-word_text word.Stat = codes "stat"
-word_text word.Read = codes "read"
-word_text word.ReadLink = codes "readlink"
-word_text word.List = codes "list"
-word_text word.Write = codes "write"
-word_text word.Truncate = codes "truncate"
-word_text word.Create = codes "create"
-word_text word.SetExec = codes "setexec"
-word_text word.Mkdir = codes "mkdir"
-word_text word.Symlink = codes "symlink"
-word_text word.Unlink = codes "unlink"
-word_text word.Rmdir = codes "rmdir"
-word_text word.Rename = codes "rename"
+abbrev pub request_word_text : Word → List ℕ
+request_word_text word.Kind = codes "kind"
+request_word_text word.Stat = codes "stat"
+request_word_text word.Read = codes "read"
+request_word_text word.ReadLink = codes "readlink"
+request_word_text word.List = codes "list"
+request_word_text word.Write = codes "write"
+request_word_text word.Truncate = codes "truncate"
+request_word_text word.Create = codes "create"
+request_word_text word.SetExec = codes "setexec"
+request_word_text word.Mkdir = codes "mkdir"
+request_word_text word.Symlink = codes "symlink"
+request_word_text word.Unlink = codes "unlink"
+request_word_text word.Rmdir = codes "rmdir"
+request_word_text word.Rename = codes "rename"
 
 abbrev pub shape_of : Word → List Sort
 shape_of word.Kind = Path ∷ []

@@ -12,8 +12,8 @@ pub record WritesFront (old new : Option (List ℕ)) (text : List ℕ) : Type 0 
   pub appends : Appends old new front
 
 -- the text was written, or at an error a beginning of it
-abbrev pub Writes : {T E : Type 0} → Option (List ℕ) → Option (List ℕ) → Result T E → List ℕ → Type 0
-Writes old new r text = MatchResult r (λ _. Appends old new text) (λ _. WritesFront old new text)
+abbrev pub WritesText : {T E : Type 0} → Option (List ℕ) → Option (List ℕ) → Result T E → List ℕ → Type 0
+WritesText old new r text = MatchResult r (λ _. Appends old new text) (λ _. WritesFront old new text)
 
 -- one call of the writer: a beginning of the bytes was taken, or none at an error
 abbrev pub SendsSome : Option (List ℕ) → Option (List ℕ) → List ℕ → Result ℕ WriteFailed → Type 0
@@ -28,7 +28,7 @@ pub record Holds (start now : Option (List ℕ)) (output : Output) (text : List 
   pub waits : output.failed ≡ false → rest ≡ output.pending.items
 
 -- this text was handed over behind what was handed over before
-pub record Grows (w v : Option (List ℕ)) (o p : Output) (text : List ℕ) : Type 0 where
+pub record HandsOver (w v : Option (List ℕ)) (o p : Output) (text : List ℕ) : Type 0 where
   pub after : (start : Option (List ℕ)) (before : List ℕ) → Holds start w o before → Holds start v p (before ++ text)
 
 -- nothing waits, and no write has failed
@@ -38,6 +38,6 @@ pub record IsIdle (output : Output) : Type 0 where
 
 -- what was handed over is written, or at an error a beginning of it
 pub record Flushed (w v : Option (List ℕ)) (o p : Output) (r : Result ⊤ WriteFailed) : Type 0 where
-  pub written : (start : Option (List ℕ)) (before : List ℕ) → Holds start w o before → Writes start v r before
+  pub written : (start : Option (List ℕ)) (before : List ℕ) → Holds start w o before → WritesText start v r before
   pub idle : OnOk r (IsIdle p)
   pub worked : OnOk r (o.failed ≡ false)

@@ -1,5 +1,5 @@
 ghost use Rattle.std.specs.Prelude.{◌≡◌, ◌≤◌, ◌+◌, ◌++◌, [], length, vec_capacity, IfOk, IsTrue, false};
-ghost use Rattle.eden_wire.specs.Writing.{SendsSome, Writes, Grows, Flushed, IsIdle};
+ghost use Rattle.eden_wire.specs.Writing.{SendsSome, WritesText, HandsOver, Flushed, IsIdle};
 
 use std::alloc::{AllocError, Global};
 use std::io::{ErrorKind, Write};
@@ -22,7 +22,7 @@ fn send_some<W: Write>(writer: &mut W, bytes: &[u8]) -> Result<usize, WriteFaile
 
 // Writes the bytes.
 fn send<W: Write>(writer: &mut W, bytes: &[u8]) -> Result<(), WriteFailed>
-    ensures { Writes (W.contents writer.old) (W.contents writer.new) result bytes.now }
+    ensures { WritesText (W.contents writer.old) (W.contents writer.new) result bytes.now }
 {
     let mut rest = bytes;
     'turns: for _ in 0..u64::MAX {
@@ -90,7 +90,7 @@ impl Output {
 
     // Writes out what is held.
     fn write_out<W: Write>(&mut self, writer: &mut W)
-        ensures grew { Grows (W.contents writer.old) (W.contents writer.new) self.old self.new [] }
+        ensures grew { HandsOver (W.contents writer.old) (W.contents writer.new) self.old self.new [] }
         ensures empty { self.new.pending.items ≡ [] }
         ensures sticks { self.new.failed ≡ false → self.old.failed ≡ false }
     {
@@ -106,7 +106,7 @@ impl Output {
     // Hands over the bytes where none are held.
     fn put_first<W: Write>(&mut self, writer: &mut W, bytes: &[u8])
         requires { self.old.pending.items ≡ [] }
-        ensures { Grows (W.contents writer.old) (W.contents writer.new) self.old self.new bytes.now }
+        ensures { HandsOver (W.contents writer.old) (W.contents writer.new) self.old self.new bytes.now }
     {
         if self.failed {
             return;
@@ -131,7 +131,7 @@ impl Output {
     /// Hands over the bytes. Few bytes, for which there is room, are copied without a call.
     #[inline(always)]
     pub(crate) fn put<W: Write>(&mut self, writer: &mut W, bytes: &[u8])
-        ensures { Grows (W.contents writer.old) (W.contents writer.new) self.old self.new bytes.now }
+        ensures { HandsOver (W.contents writer.old) (W.contents writer.new) self.old self.new bytes.now }
     {
         if self.has_room(bytes) {
             self.hold(bytes);

@@ -2,9 +2,9 @@ ghost use Rattle.std.specs.Prelude.{◌≡◌, ◌≤◌, ◌<◌, ◌^◌, ◌+
 ghost use Rattle.std.specs.Option.{IfSome};
 ghost use Rattle.eden_wire.specs.Fields.Field.{of_path, of_number, of_bit, of_data, of_after};
 ghost use Rattle.eden_wire.specs.Requests.{spelling};
-ghost use Rattle.eden_wire.specs.Words.{word_text};
+ghost use Rattle.eden_wire.specs.Words.{request_word_text};
 ghost use Rattle.eden_wire.specs.Fronts.{NameFirst, FieldFirst, Completes};
-ghost use Rattle.eden_wire.specs.Lines.{Reads};
+ghost use Rattle.eden_wire.specs.Lines.{IsReadAs};
 ghost use Rattle.eden_wire.specs.declared.request.Item.TheVariants.{Asks};
 
 use crate::escape::plain_len;
@@ -19,7 +19,7 @@ const FEW: usize = 4;
 // The text behind the word at its beginning, if it is that word.
 #[inline(always)]
 fn behind_word(line: &[u8], word: Word) -> Option<(Word, &[u8])>
-    ensures { IfSome result (λ x. line.now ≡ word_text x.0 ++ x.1.now) }
+    ensures { IfSome result (λ x. line.now ≡ request_word_text x.0 ++ x.1.now) }
 {
     let text = word.text();
     if !line.starts_with(text) {
@@ -31,7 +31,7 @@ fn behind_word(line: &[u8], word: Word) -> Option<(Word, &[u8])>
 // The word that the line begins with, and the text behind it. Few bytes tell which word it may be.
 #[inline(always)]
 fn front_word(line: &[u8]) -> Option<(Word, &[u8])>
-    ensures { IfSome result (λ x. line.now ≡ word_text x.0 ++ x.1.now) }
+    ensures { IfSome result (λ x. line.now ≡ request_word_text x.0 ++ x.1.now) }
 {
     if line.len() < 5 {
         return None;
@@ -219,7 +219,7 @@ fn last_path(alloc: Global, text: &[u8]) -> Option<Path>
 // The request of a word that only a path comes behind.
 #[inline(always)]
 fn of_path_alone(word: Word, path: Path) -> Option<Request>
-    ensures { IfSome result (λ q. spelling q ≡ Some (word_text word, of_path path ∷ [])) }
+    ensures { IfSome result (λ q. spelling q ≡ Some (request_word_text word, of_path path ∷ [])) }
 {
     match word {
         Word::Kind => Some(Request::Kind(path)),
@@ -265,7 +265,7 @@ fn complete(alloc: Global, word: Word, path: Path, text: &[u8]) -> Option<Reques
 /// The request that the line is, read in one pass. None says nothing: a line with a name of other bytes, with a refusal
 /// or for which there is no memory is left to `read_request`'s two passes.
 pub(crate) fn read_plain(alloc: Global, line: &[u8]) -> Option<Request>
-    ensures { IfSome result (λ q. Reads line.now (Asks q)) }
+    ensures { IfSome result (λ q. IsReadAs line.now (Asks q)) }
 {
     let (word, text) = front_word(line)?;
     let (path, more) = front_path(alloc, text)?;

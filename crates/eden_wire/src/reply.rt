@@ -6,7 +6,7 @@ ghost use Rattle.eden_model.specs.declared.reply.Reply.TheVariants as reply;
 ghost use Rattle.eden_wire.specs.declared.reply.TheConstants.{PIECE, SHORT};
 ghost use Rattle.std.specs.List.{flat_map};
 ghost use Rattle.hex.specs.Hex.{encode_lower};
-ghost use Rattle.eden_wire.specs.Writing.{Writes, Grows};
+ghost use Rattle.eden_wire.specs.Writing.{WritesText, HandsOver};
 ghost use Rattle.eden_wire.specs.Names.{name_text};
 ghost use Rattle.eden_wire.specs.Replies.{kind_word, entry_text, error_text, cause_word, reply_text, answer_text};
 
@@ -46,14 +46,14 @@ impl Scratch {
 }
 
 fn put_number<W: Write>(output: &mut Output, writer: &mut W, n: u64)
-    ensures { Grows (W.contents writer.old) (W.contents writer.new) output.old output.new (decimal n) }
+    ensures { HandsOver (W.contents writer.old) (W.contents writer.new) output.old output.new (decimal n) }
 {
     let mut buffer = Buffer::new();
     output.put(writer, buffer.format(n).as_bytes());
 }
 
 fn put_name<W: Write>(output: &mut Output, writer: &mut W, name: &[u8])
-    ensures { Grows (W.contents writer.old) (W.contents writer.new) output.old output.new (name_text name.now) }
+    ensures { HandsOver (W.contents writer.old) (W.contents writer.new) output.old output.new (name_text name.now) }
 {
     if plain_len(name) == name.len() {
         output.put(writer, name);
@@ -66,7 +66,7 @@ fn put_name<W: Write>(output: &mut Output, writer: &mut W, name: &[u8])
 
 // Two lower-case digits a byte, 1,024 bytes at a time.
 fn put_hex<W: Write>(output: &mut Output, writer: &mut W, bytes: &[u8])
-    ensures { Grows (W.contents writer.old) (W.contents writer.new) output.old output.new (encode_lower bytes.now) }
+    ensures { HandsOver (W.contents writer.old) (W.contents writer.new) output.old output.new (encode_lower bytes.now) }
 {
     if bytes.len() <= SHORT {
         put_short(output, writer, bytes);
@@ -82,7 +82,7 @@ fn put_hex<W: Write>(output: &mut Output, writer: &mut W, bytes: &[u8])
 
 fn put_piece<W: Write>(output: &mut Output, writer: &mut W, piece: &[u8])
     requires { length piece.now ≤ PIECE }
-    ensures { Grows (W.contents writer.old) (W.contents writer.new) output.old output.new (encode_lower piece.now) }
+    ensures { HandsOver (W.contents writer.old) (W.contents writer.new) output.old output.new (encode_lower piece.now) }
 {
     let mut digits = [0; 2 * PIECE];
     let text = &mut digits[..2 * piece.len()];
@@ -93,7 +93,7 @@ fn put_piece<W: Write>(output: &mut Output, writer: &mut W, piece: &[u8])
 // The same for a few bytes, for which less room is filled with zeros first.
 fn put_short<W: Write>(output: &mut Output, writer: &mut W, bytes: &[u8])
     requires { length bytes.now ≤ SHORT }
-    ensures { Grows (W.contents writer.old) (W.contents writer.new) output.old output.new (encode_lower bytes.now) }
+    ensures { HandsOver (W.contents writer.old) (W.contents writer.new) output.old output.new (encode_lower bytes.now) }
 {
     let mut digits = [0; 2 * SHORT];
     let text = &mut digits[..2 * bytes.len()];
@@ -124,7 +124,7 @@ fn stat_front(kind: Kind) -> &'static [u8]
 }
 
 fn put_stat<W: Write>(output: &mut Output, writer: &mut W, kind: Kind, size: u64, number: u64)
-    ensures { Grows (W.contents writer.old) (W.contents writer.new) output.old output.new
+    ensures { HandsOver (W.contents writer.old) (W.contents writer.new) output.old output.new
         (reply_text (reply.Stat kind size number)) }
 {
     output.put(writer, stat_front(kind));
@@ -135,7 +135,7 @@ fn put_stat<W: Write>(output: &mut Output, writer: &mut W, kind: Kind, size: u64
 }
 
 fn put_count<W: Write>(output: &mut Output, writer: &mut W, count: u64)
-    ensures { Grows (W.contents writer.old) (W.contents writer.new) output.old output.new
+    ensures { HandsOver (W.contents writer.old) (W.contents writer.new) output.old output.new
         (reply_text (reply.Count count)) }
 {
     output.put(writer, b"count ");
@@ -144,7 +144,7 @@ fn put_count<W: Write>(output: &mut Output, writer: &mut W, count: u64)
 }
 
 fn put_data<W: Write>(output: &mut Output, writer: &mut W, bytes: &[u8])
-    ensures { Grows (W.contents writer.old) (W.contents writer.new) output.old output.new
+    ensures { HandsOver (W.contents writer.old) (W.contents writer.new) output.old output.new
         (reply_text (reply.Data bytes.now)) }
 {
     if bytes.is_empty() {
@@ -170,7 +170,7 @@ fn entry_front(kind: Kind) -> &'static [u8]
 }
 
 fn put_entry<W: Write>(output: &mut Output, writer: &mut W, entry: &(Name, Kind))
-    ensures { Grows (W.contents writer.old) (W.contents writer.new) output.old output.new (entry_text entry.now) }
+    ensures { HandsOver (W.contents writer.old) (W.contents writer.new) output.old output.new (entry_text entry.now) }
 {
     let (name, kind) = entry;
     output.put(writer, entry_front(*kind));
@@ -178,7 +178,7 @@ fn put_entry<W: Write>(output: &mut Output, writer: &mut W, entry: &(Name, Kind)
 }
 
 fn put_rows<W: Write>(output: &mut Output, writer: &mut W, rows: &[(Name, Kind)])
-    ensures { Grows (W.contents writer.old) (W.contents writer.new) output.old output.new
+    ensures { HandsOver (W.contents writer.old) (W.contents writer.new) output.old output.new
         (flat_map entry_text rows.now) }
 {
     'rows: for entry in rows {
@@ -187,7 +187,7 @@ fn put_rows<W: Write>(output: &mut Output, writer: &mut W, rows: &[(Name, Kind)]
 }
 
 fn put_more<W: Write>(output: &mut Output, writer: &mut W, more: bool)
-    ensures { Grows (W.contents writer.old) (W.contents writer.new) output.old output.new
+    ensures { HandsOver (W.contents writer.old) (W.contents writer.new) output.old output.new
         (if more then codes " more\n" else codes " end\n") }
 {
     if more {
@@ -198,7 +198,7 @@ fn put_more<W: Write>(output: &mut Output, writer: &mut W, more: bool)
 }
 
 fn put_entries<W: Write>(output: &mut Output, writer: &mut W, entries: &Entries, more: bool)
-    ensures { Grows (W.contents writer.old) (W.contents writer.new) output.old output.new
+    ensures { HandsOver (W.contents writer.old) (W.contents writer.new) output.old output.new
         (reply_text (reply.Entries entries.now more)) }
 {
     output.put(writer, b"entries ");
@@ -226,7 +226,7 @@ fn error_line(errno: Errno) -> &'static [u8]
 
 /// Hands over the text of an error.
 pub(crate) fn put_error<W: Write>(output: &mut Output, writer: &mut W, errno: Errno)
-    ensures { Grows (W.contents writer.old) (W.contents writer.new) output.old output.new (error_text errno) }
+    ensures { HandsOver (W.contents writer.old) (W.contents writer.new) output.old output.new (error_text errno) }
 {
     output.put(writer, error_line(errno));
 }
@@ -246,7 +246,7 @@ fn cause_line(cause: Cause) -> &'static [u8]
 }
 
 fn put_id<W: Write>(output: &mut Output, writer: &mut W, id: Id)
-    ensures { Grows (W.contents writer.old) (W.contents writer.new) output.old output.new (encode_lower id.bytes) }
+    ensures { HandsOver (W.contents writer.old) (W.contents writer.new) output.old output.new (encode_lower id.bytes) }
 {
     let mut digits = [0; 40];
     hex::encode_to_slice(&id.bytes, &mut digits).unwrap();
@@ -254,7 +254,7 @@ fn put_id<W: Write>(output: &mut Output, writer: &mut W, id: Id)
 }
 
 fn put_fetch<W: Write>(output: &mut Output, writer: &mut W, id: Id, cause: Cause)
-    ensures { Grows (W.contents writer.old) (W.contents writer.new) output.old output.new
+    ensures { HandsOver (W.contents writer.old) (W.contents writer.new) output.old output.new
         (reply_text (reply.Fault (fault.Fetch id cause))) }
 {
     output.put(writer, b"fault fetch ");
@@ -264,7 +264,7 @@ fn put_fetch<W: Write>(output: &mut Output, writer: &mut W, id: Id, cause: Cause
 }
 
 fn put_fault<W: Write>(output: &mut Output, writer: &mut W, fault: Fault)
-    ensures { Grows (W.contents writer.old) (W.contents writer.new) output.old output.new
+    ensures { HandsOver (W.contents writer.old) (W.contents writer.new) output.old output.new
         (reply_text (reply.Fault fault)) }
 {
     match fault {
@@ -276,7 +276,7 @@ fn put_fault<W: Write>(output: &mut Output, writer: &mut W, fault: Fault)
 }
 
 fn put_history<W: Write>(output: &mut Output, writer: &mut W, limit: u64)
-    ensures { Grows (W.contents writer.old) (W.contents writer.new) output.old output.new
+    ensures { HandsOver (W.contents writer.old) (W.contents writer.new) output.old output.new
         (answer_text (Some (Err (call.Start (start.HistoryFull limit))))) }
 {
     output.put(writer, b"fault history ");
@@ -285,7 +285,7 @@ fn put_history<W: Write>(output: &mut Output, writer: &mut W, limit: u64)
 }
 
 fn put_start_fault<W: Write>(output: &mut Output, writer: &mut W, fault: StartFault)
-    ensures { Grows (W.contents writer.old) (W.contents writer.new) output.old output.new
+    ensures { HandsOver (W.contents writer.old) (W.contents writer.new) output.old output.new
         (answer_text (Some (Err (call.Start fault)))) }
 {
     match fault {
@@ -297,7 +297,7 @@ fn put_start_fault<W: Write>(output: &mut Output, writer: &mut W, fault: StartFa
 }
 
 fn put_foreign<W: Write>(output: &mut Output, writer: &mut W, floor: u64, length: u64)
-    ensures { Grows (W.contents writer.old) (W.contents writer.new) output.old output.new
+    ensures { HandsOver (W.contents writer.old) (W.contents writer.new) output.old output.new
         (answer_text (Some (Err (call.Foreign floor length)))) }
 {
     output.put(writer, b"fault foreign ");
@@ -309,7 +309,7 @@ fn put_foreign<W: Write>(output: &mut Output, writer: &mut W, floor: u64, length
 
 /// Hands over the text of a fault of a call.
 pub(crate) fn put_call_fault<W: Write>(output: &mut Output, writer: &mut W, fault: CallFault)
-    ensures { Grows (W.contents writer.old) (W.contents writer.new) output.old output.new
+    ensures { HandsOver (W.contents writer.old) (W.contents writer.new) output.old output.new
         (answer_text (Some (Err fault))) }
 {
     match fault {
@@ -321,7 +321,7 @@ pub(crate) fn put_call_fault<W: Write>(output: &mut Output, writer: &mut W, faul
 
 /// Hands over the text of a reply.
 pub(crate) fn put_reply<W: Write>(output: &mut Output, writer: &mut W, reply: &Reply)
-    ensures { Grows (W.contents writer.old) (W.contents writer.new) output.old output.new (reply_text reply.now) }
+    ensures { HandsOver (W.contents writer.old) (W.contents writer.new) output.old output.new (reply_text reply.now) }
 {
     match reply {
         Reply::Ok => output.put(writer, b"ok\n"),
@@ -341,7 +341,7 @@ pub fn write_reply<W: Write>(
     scratch: &mut Scratch,
     reply: &Reply,
 ) -> Result<(), WriteFailed>
-    ensures { Writes (W.contents writer.old) (W.contents writer.new) result (reply_text reply.now) }
+    ensures { WritesText (W.contents writer.old) (W.contents writer.new) result (reply_text reply.now) }
 {
     scratch.output.clear();
     put_reply(&mut scratch.output, writer, reply);

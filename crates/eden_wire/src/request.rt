@@ -1,5 +1,5 @@
 ghost use Rattle.std.specs.Prelude.{IfOk, OnErr, None};
-ghost use Rattle.eden_wire.specs.Lines.{Reads, AsksSome};
+ghost use Rattle.eden_wire.specs.Lines.{IsReadAs, AsksSome};
 ghost use Rattle.eden_wire.specs.Words.{shape_of};
 ghost use Rattle.eden_wire.specs.Fields.Field.{of_path};
 ghost use Rattle.eden_wire.specs.Scans.{ScansFields, SpellsRequest, Takes};
@@ -24,7 +24,7 @@ pub enum Item {
 
 /// The item that a line is, without its line feed. Want of memory, the only error, comes only where it is a request.
 pub fn read_request(alloc: Global, line: &[u8]) -> Result<Item, AllocError>
-    ensures item { IfOk result (Reads line.now) }
+    ensures item { IfOk result (IsReadAs line.now) }
     ensures memory { OnErr result (AsksSome line.now) }
 {
     match read_plain(alloc, line) {

@@ -1,5 +1,5 @@
 ghost use Rattle.std.specs.Prelude.{◌≡◌, ◌≢◌, MatchOption};
-ghost use Rattle.eden_wire.specs.Words.{word_text, shape_of};
+ghost use Rattle.eden_wire.specs.Words.{request_word_text, shape_of};
 ghost use Rattle.eden_wire.specs.declared.word.Word.{Word};
 
 /// What a field of a line may be.
@@ -70,7 +70,7 @@ const WORDS: &[Word] = &[
 
 /// The word that is spelled so.
 pub(crate) fn read_word(text: &[u8]) -> Option<Word>
-    ensures { MatchOption result ((w : Word) → text.now ≢ word_text w) (λ w. text.now ≡ word_text w) }
+    ensures { MatchOption result ((w : Word) → text.now ≢ request_word_text w) (λ w. text.now ≡ request_word_text w) }
 {
     'words: for word in WORDS {
         if text == word.text() {
@@ -83,7 +83,7 @@ pub(crate) fn read_word(text: &[u8]) -> Option<Word>
 impl Word {
     /// How it is spelled.
     pub(crate) fn text(self) -> &'static [u8]
-        ensures { result.now ≡ word_text self }
+        ensures { result.now ≡ request_word_text self }
     {
         match self {
             Word::Kind => b"kind",

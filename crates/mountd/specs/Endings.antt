@@ -97,10 +97,10 @@ server_status (Err (server.Open fault)) = 3
 server_status (Err (server.Listen fault)) = 4
 server_status (Err (server.Session fault)) = 4
 
-abbrev pub first_fault : Result ⊤ HoldFault → Result ⊤ AnswerFault → Result ⊤ ServerFault
-first_fault (Err fault) served = Err (server.Listen fault)
-first_fault (Ok _) (Err fault) = Err (server.Session fault)
-first_fault (Ok _) (Ok _) = Ok tt
+abbrev pub first_server_fault : Result ⊤ HoldFault → Result ⊤ AnswerFault → Result ⊤ ServerFault
+first_server_fault (Err fault) served = Err (server.Listen fault)
+first_server_fault (Ok _) (Err fault) = Err (server.Session fault)
+first_server_fault (Ok _) (Ok _) = Ok tt
 
 -- .. and of an import
 abbrev pub import_status : Result ⊤ ImportFault → ℕ

@@ -14,7 +14,7 @@ use Rattle.eden_remote.specs.declared.fault.AnswerFault.{AnswerFault}
 use Rattle.mountd.specs.declared.hold.HoldFault.{HoldFault}
 use Rattle.mountd.specs.declared.server.ServerFault.{ServerFault}
 use Rattle.mountd.specs.declared.server.ServerFault.TheVariants as server
-use Rattle.mountd.specs.Endings.{first_fault}
+use Rattle.mountd.specs.Endings.{first_server_fault}
 
 -- how a connection ended
 abbrev pub Ended : Type 0
@@ -59,7 +59,7 @@ module _ {I O : Type 0} (i : Read I) (o : Write O) where
     pub all : IsOk taken → count ≡ sessions
     pub ended : Ended
     pub have_ended : HaveEnded count ended
-    pub is : told ≡ first_fault taken ended
+    pub is : told ≡ first_server_fault taken ended
 
   -- .. or the repository couldn't be opened, which is told then
   abbrev pub ServesObjects : ℕ → Result ⊤ ServerFault → Type 0

@@ -1,6 +1,6 @@
 //! A server of objects, with a worker for each connection.
 ghost use Rattle.std.specs.Prelude.{◌≡◌, ◌≤◌, [], IfErr, IfOk, IsOk, length};
-ghost use Rattle.mountd.specs.Endings.{first_fault};
+ghost use Rattle.mountd.specs.Endings.{first_server_fault};
 ghost use Rattle.mountd.specs.Workers.{HaveEnded, IsAnswered, IsAnsweredFrom, IsEarly, ServesObjects};
 
 use crate::hold::{HoldFault, hold_address, let_go};
@@ -206,7 +206,7 @@ fn first_fault(
     taken: Result<(), HoldFault>,
     served: Result<(), AnswerFault>,
 ) -> Result<(), ServerFault>
-    ensures { result ≡ first_fault taken served }
+    ensures { result ≡ first_server_fault taken served }
 {
     taken.map_err(ServerFault::Listen)?;
     served.map_err(ServerFault::Session)

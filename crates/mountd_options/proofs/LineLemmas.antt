@@ -18,7 +18,7 @@ use Rattle.clap.specs.Faults.{fault_of}
 use Rattle.clap.specs.Values.{kind_of}
 use Rattle.clap.specs.declared.error.Error.{Error}
 use Rattle.clap.specs.declared.error.kind.ErrorKind.TheVariants.{OutOfMemory}
-use Rattle.mountd_options.specs.CommandLine.{IsTaken, NamesItsSource, NamesMount, NamesServed, Refuses, RefusesNumber, RefusesRepair, RefusesServed, RefusesServer, RefusesValues}
+use Rattle.mountd_options.specs.CommandLine.{IsTaken, NamesItsSource, NamesMount, NamesServed, RefusesWords, RefusesNumber, RefusesRepair, RefusesServed, RefusesServer, RefusesValues}
 use Rattle.mountd_options.specs.CommandLine.{changes, command_name, dematerialise, fuse, import, mountd_line, named, objects, repair, serve, server_name, snapshot, stdio, subcommands, tidy, value_of}
 use Rattle.mountd_options.specs.Grammar.{HasRequired, Subcommand, value_in}
 use Rattle.mountd_options.specs.Numbers.{IsNoNumber, IsNoValue, number_name}
@@ -186,7 +186,7 @@ opens_none by.Dematerialise name is named =
 
 -- values that a command refuses which is over a commit's tree
 pub values_refuse : (command : MountCommand) (words : List Text) (f : Found) (why : OptionsError) → IsTaken words
-    → subcommand_of mountd_line words ≡ Some (command_name command, rows_of f) → RefusesValues command (first_value f) why → Refuses words why
+    → subcommand_of mountd_line words ≡ Some (command_name command, rows_of f) → RefusesValues command (first_value f) why → RefusesWords words why
 values_refuse command words f why taken met refused =
     by_fault why (by_words (λ value. RefusesValues command value why) words f (command_name command) met refused)
   where
@@ -196,7 +196,7 @@ values_refuse command words f why taken met refused =
       served = λ is. absurd (opens_none command (named words) is (named-met words f (command_name command) met));
     }
 
-    by_fault : (e : OptionsError) → RefusesValues command (value_of words) e → Refuses words e
+    by_fault : (e : OptionsError) → RefusesValues command (value_of words) e → RefusesWords words e
     by_fault (error.Refused reason) why = absurd why
     by_fault error.Root why = (taken, why)
     by_fault error.Tree why =
@@ -218,7 +218,7 @@ values_refuse command words f why taken met refused =
 
 -- .. and that `objects` refuses
 pub objects_refuse : (words : List Text) (f : Found) (why : OptionsError) → IsTaken words
-    → subcommand_of mountd_line words ≡ Some (objects.0, rows_of f) → RefusesServed (first_value f) why → Refuses words why
+    → subcommand_of mountd_line words ≡ Some (objects.0, rows_of f) → RefusesServed (first_value f) why → RefusesWords words why
 objects_refuse words f why taken met refused =
     by_fault why (by_words (λ value. RefusesServed value why) words f objects.0 met refused)
   where
@@ -228,7 +228,7 @@ objects_refuse words f why taken met refused =
       served = λ _. one;
     }
 
-    by_fault : (e : OptionsError) → RefusesServed (value_of words) e → Refuses words e
+    by_fault : (e : OptionsError) → RefusesServed (value_of words) e → RefusesWords words e
     by_fault (error.Refused reason) why = absurd why
     by_fault error.Root why = absurd why
     by_fault error.Tree why = absurd why
@@ -244,11 +244,11 @@ objects_refuse words f why taken met refused =
 
 -- .. and that `repair` refuses
 pub repair_refuses : (words : List Text) (f : Found) (why : OptionsError) → IsTaken words
-    → subcommand_of mountd_line words ≡ Some (repair.0, rows_of f) → RefusesRepair (first_value f) why → Refuses words why
+    → subcommand_of mountd_line words ≡ Some (repair.0, rows_of f) → RefusesRepair (first_value f) why → RefusesWords words why
 repair_refuses words f why taken met refused =
     by_fault why (by_words (λ value. RefusesRepair value why) words f repair.0 met refused)
   where
-    by_fault : (e : OptionsError) → RefusesRepair (value_of words) e → Refuses words e
+    by_fault : (e : OptionsError) → RefusesRepair (value_of words) e → RefusesWords words e
     by_fault (error.Refused reason) why = absurd why
     by_fault error.Root why = (taken, why)
     by_fault error.Tree why = absurd why
@@ -308,7 +308,7 @@ refused_if_none value option text (Err refused) given (is, none) = refused_numbe
 -- an error of `clap`
 pub clap_refuses : (words : List Text) (reason : Error) (e : OptionsError) → HasKind (fault_of mountd_line words) reason
     → (kind_of reason ≡ OutOfMemory → e ≡ error.Memory)
-    → (e ≡ error.Refused reason) ⊎ ((e ≡ error.Memory) × (kind_of reason ≡ OutOfMemory)) → Refuses words e
-clap_refuses words reason e (inl memory) out one = subst (Refuses words) (sym (out memory)) tt
-clap_refuses words reason e (inr among) out (inl refused) = subst (Refuses words) (sym refused) among
-clap_refuses words reason e (inr among) out (inr memory) = subst (Refuses words) (sym memory.0) tt
+    → (e ≡ error.Refused reason) ⊎ ((e ≡ error.Memory) × (kind_of reason ≡ OutOfMemory)) → RefusesWords words e
+clap_refuses words reason e (inl memory) out one = subst (RefusesWords words) (sym (out memory)) tt
+clap_refuses words reason e (inr among) out (inl refused) = subst (RefusesWords words) (sym refused) among
+clap_refuses words reason e (inr among) out (inr memory) = subst (RefusesWords words) (sym memory.0) tt

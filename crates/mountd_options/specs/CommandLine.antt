@@ -410,17 +410,17 @@ pub record NamesItsSource (words : List Text) : Type 0 where
   pub served : named words ≡ Some objects.0 → NamesServed (value_of words)
 
 -- why the words are refused: what is told says that the words passed what comes before it
-abbrev pub Refuses : List Text → OptionsError → Type 0
-Refuses words (error.Refused why) = IsAmong (kind_of why) (fault_of mountd_line words)
-Refuses words error.Root = IsTaken words × NamesNoRoot (value_of words)
-Refuses words error.Tree = IsTaken words × (named words ≡ Some dematerialise.0) × NamesItsSource words × NamesNoTree (value_of words)
-Refuses words (error.Source command) =
+abbrev pub RefusesWords : List Text → OptionsError → Type 0
+RefusesWords words (error.Refused why) = IsAmong (kind_of why) (fault_of mountd_line words)
+RefusesWords words error.Root = IsTaken words × NamesNoRoot (value_of words)
+RefusesWords words error.Tree = IsTaken words × (named words ≡ Some dematerialise.0) × NamesItsSource words × NamesNoTree (value_of words)
+RefusesWords words (error.Source command) =
     IsTaken words × (named words ≡ Some (command_name command)) × NamesRoot (value_of words) × NamesNotOne (value_of words)
-Refuses words (error.Repository command) =
+RefusesWords words (error.Repository command) =
     IsTaken words × (named words ≡ Some (command_name command)) × NamesRoot (value_of words) × NamesBoth (value_of words)
-Refuses words error.Served = IsTaken words × (named words ≡ Some objects.0) × NamesNotOneServed (value_of words)
-Refuses words (error.Place command) =
+RefusesWords words error.Served = IsTaken words × (named words ≡ Some objects.0) × NamesNotOneServed (value_of words)
+RefusesWords words (error.Place command) =
     IsTaken words × (named words ≡ Some (server_name command)) × NamesItsSource words × NamesNotOnePlace (value_of words)
-Refuses words (error.Address option) = IsTaken words × NamesItsSource words × RefusesAddress (value_of words) option
-Refuses words (error.Number option) = IsTaken words × NamesItsSource words × RefusesNumber (value_of words) option
-Refuses words error.Memory = ⊤
+RefusesWords words (error.Address option) = IsTaken words × NamesItsSource words × RefusesAddress (value_of words) option
+RefusesWords words (error.Number option) = IsTaken words × NamesItsSource words × RefusesNumber (value_of words) option
+RefusesWords words error.Memory = ⊤

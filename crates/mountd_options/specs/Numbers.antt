@@ -44,11 +44,11 @@ abbrev pub NoneWithin : ℕ → ℕ → Text → Type 0
 NoneWithin least most text = (n : ℕ) → IsWithin least most text n → ⊥
 
 -- the text is this number, which the option takes
-abbrev pub IsNumber : NumberOption → Text → ℕ → Type 0
-IsNumber option text n = IsWithin (least_of option) (most_of option) text n
+abbrev pub NamesNumber : NumberOption → Text → ℕ → Type 0
+NamesNumber option text n = IsWithin (least_of option) (most_of option) text n
 
 abbrev pub IsNoNumber : NumberOption → Text → Type 0
-IsNoNumber option text = (n : ℕ) → IsNumber option text n → ⊥
+IsNoNumber option text = (n : ℕ) → NamesNumber option text n → ⊥
 
 -- the text stands for no number, as that of the history may
 abbrev pub SaysNone : NumberOption → Text → Type 0
@@ -61,9 +61,9 @@ IsNoValue option text = IsNoNumber option text × (¬ SaysNone option text)
 -- the number of an option that is given
 abbrev pub GivesNumber : NumberOption → Option Text → ℕ → Type 0
 GivesNumber option None n = ⊥
-GivesNumber option (Some text) n = IsNumber option text n
+GivesNumber option (Some text) n = NamesNumber option text n
 
 -- the number that the option has: its value's, or the default where there is no value or one that stands for none
 abbrev pub SaysNumber : NumberOption → ℕ → Option Text → ℕ → Type 0
 SaysNumber option default None n = n ≡ default
-SaysNumber option default (Some text) n = IsNumber option text n ⊎ (SaysNone option text × (n ≡ default))
+SaysNumber option default (Some text) n = NamesNumber option text n ⊎ (SaysNone option text × (n ≡ default))

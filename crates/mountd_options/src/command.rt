@@ -7,13 +7,13 @@ ghost use Rattle.mountd_options.specs.Addresses.{IsAddress, IsNoAddress, address
 ghost use Rattle.mountd_options.specs.CommandLine.{AreServed, AsksFor, AsksVersion, IsFolder, IsGiven, IsImport};
 ghost use Rattle.mountd_options.specs.CommandLine.{IsMount};
 ghost use Rattle.mountd_options.specs.CommandLine.{IsServed, IsTaken, IsTidy, KeepsNone, NamesMount, NamesServed};
-ghost use Rattle.mountd_options.specs.CommandLine.{Refuses, RefusesNumber, RefusesObjects, RefusesServed};
+ghost use Rattle.mountd_options.specs.CommandLine.{RefusesWords, RefusesNumber, RefusesObjects, RefusesServed};
 ghost use Rattle.mountd_options.specs.CommandLine.{RefusesServer, RefusesValues, SaysLimits, SaysObjects, SaysPasses};
 ghost use Rattle.mountd_options.specs.CommandLine.{SaysPlace, SaysServed, command_name, fuse_options, import_options};
 ghost use Rattle.mountd_options.specs.CommandLine.{mount_options, mountd_line, serve_options};
 ghost use Rattle.mountd_options.specs.CommandLine.{server_name, tidy_options};
 ghost use Rattle.mountd_options.specs.Grammar.{HasRequired};
-ghost use Rattle.mountd_options.specs.Numbers.{IsNoNumber, IsNoValue, IsNumber, SaysNumber};
+ghost use Rattle.mountd_options.specs.Numbers.{IsNoNumber, IsNoValue, NamesNumber, SaysNumber};
 ghost use Rattle.mountd_options.specs.Numbers.{least_of, most_of, number_name};
 ghost use Rattle.mountd_options.specs.declared.numbers.NumberOption.TheVariants.{Sessions};
 ghost use Rattle.mountd_options.specs.declared.command.MountCommand.TheVariants as by;
@@ -304,7 +304,7 @@ pub fn options<S: AsStr>(alloc: Global, words: &[S]) -> Result<Command, OptionsE
     ensures version { AsksVersion (map S.text words.now) → result ≡ Ok Command.Version }
     ensures taken { OnOk result (IsTaken (map S.text words.now) ⊎ AsksVersion (map S.text words.now)) }
     ensures ok { IfOk result (AsksFor (map S.text words.now)) }
-    ensures err { IfErr result (Refuses (map S.text words.now)) }
+    ensures err { IfErr result (RefusesWords (map S.text words.now)) }
 {
     if asks_version(words) {
         return Ok(Command::Version);
@@ -666,7 +666,7 @@ fn read_or(text: &str, option: NumberOption, default: u64) -> Result<u64, Number
 
 /// The number that the text spells for the option, or the option where it is none that it takes.
 fn read(text: &str, option: NumberOption) -> Result<u64, NumberOption>
-    ensures ok { IfOk result (IsNumber option text.now) }
+    ensures ok { IfOk result (NamesNumber option text.now) }
     ensures range { IfOk result (λ n. (least_of option ≤ n) × (n ≤ most_of option)) }
     ensures err { IfErr result (λ refused. (refused ≡ option) × IsNoNumber option text.now) }
 {
@@ -681,7 +681,7 @@ fn matches_of<'a, S: AsStr>(alloc: Global, words: &'a [S]) -> Result<ArgMatches<
     ensures taken { OnOk result (IsTaken (map S.text words.entry.now)) }
     ensures subcommand { IfOk result (λ matches.
         subcommand_rows_of matches ≡ subcommand_of mountd_line (map S.text words.entry.now)) }
-    ensures err { IfErr result (Refuses (map S.text words.entry.now)) }
+    ensures err { IfErr result (RefusesWords (map S.text words.entry.now)) }
 {
     match command_line(alloc)?.try_get_matches_from(words) {
         Ok(matches) => Ok(matches),

@@ -1,6 +1,6 @@
 //! Options that take a number.
 ghost use Rattle.std.specs.Prelude.{◌≡◌, ◌≤◌, ◌↔◌, IsTrue, MatchOption};
-ghost use Rattle.mountd_options.specs.Numbers.{IsNoNumber, IsNumber, IsWithin, NoneWithin, SaysNone};
+ghost use Rattle.mountd_options.specs.Numbers.{IsNoNumber, NamesNumber, IsWithin, NoneWithin, SaysNone};
 ghost use Rattle.mountd_options.specs.Numbers.{least_of, most_of, number_name};
 
 use eden_wire::read_number;
@@ -95,7 +95,7 @@ impl NumberOption {
     ///
     /// None exactly where the text spells no number, or one that the option doesn't take.
     pub fn read(self, text: &str) -> Option<u64>
-        ensures { MatchOption result (IsNoNumber self text.now) (IsNumber self text.now) }
+        ensures { MatchOption result (IsNoNumber self text.now) (NamesNumber self text.now) }
     {
         read_within(text, self.least(), self.most())
     }

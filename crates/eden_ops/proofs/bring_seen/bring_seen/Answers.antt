@@ -4,7 +4,7 @@ use Rattle.eden_coupling.specs.Loading.{IsAt}
 use Rattle.std.proofs.Common.{OnOk, IfErr}
 use Rattle.eden_ops.specs.Attempts.{Lacks}
 use Rattle.eden_ops.specs.Keeping.{Keeps, same}
-use Rattle.eden_ops.specs.Known.{IsLoadedAt}
+use Rattle.eden_ops.specs.Known.{IsKnownLoadedAt}
 use Rattle.eden_ops.proofs.Fetching.{is_loaded, is_away}
 use Rattle.eden_ops.proofs.bring_seen.bring_seen.Goals as goal
 
@@ -20,7 +20,7 @@ bring-requires g c =
     record { at = subst (λ (q : Path). IsAt q x c.args.seen.origin) (sym c.as_slice.ensures) (is_away c.args.path.now x c.args.seen c.requires.seen c.if-seen.false c.requires.dir) }
 
 pub returns-clause-ok : goal.returns-clause-ok
-returns-clause-ok g c = subst (λ (q : Path). OnOk c.bring.result (IsLoadedAt q c.bring.new.inodes.root)) c.as_slice.ensures c.bring.ensures.ok
+returns-clause-ok g c = subst (λ (q : Path). OnOk c.bring.result (IsKnownLoadedAt q c.bring.new.inodes.root)) c.as_slice.ensures c.bring.ensures.ok
 
 pub returns-clause-lacks : goal.returns-clause-lacks
 returns-clause-lacks g c =

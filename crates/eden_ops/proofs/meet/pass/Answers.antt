@@ -1,6 +1,6 @@
 use Rattle.std.proofs.Common.{◌≡◌, ◌<◌, length, take, refl, sym, ◌∙◌, subst, arith}
 use Rattle.eden_ops.specs.Keeping.{same}
-use Rattle.eden_ops.specs.Known.{IsLoadedAt}
+use Rattle.eden_ops.specs.Known.{IsKnownLoadedAt}
 use Rattle.eden_ops.proofs.Finding.{finds_on}
 use Rattle.eden_ops.proofs.Looking.{no_dir}
 use Rattle.eden_ops.proofs.Meeting.{seen_here, absent_here, ends_absent, ends_file, is_at, ends_unlisted}
@@ -151,7 +151,7 @@ fronts-preserved g c =
       noted = noted_loaded p u.root c.bring.new.inodes.root c.args.trail.now c.look_along-seen.new.trail (keeps_names g.W.World g.F.Files u c.bring.new.inodes c.bring.ensures.keeps)
           (noted_more p t.root u.root seen c.args.trail.now c.fronts.trail c.look_along-seen.new.trail c.fronts.invariant.noted c.if-seen.false c.look_along-seen.ensures.notes);
       few = omega (arith, lt);
-      last = λ k is. let same : seen.names ≡ k = omega (arith, is) in subst (λ n. IsLoadedAt (take n p) c.bring.new.inodes.root) same c.in_ok-bring-in-Dir.ensures.ok;
+      last = λ k is. let same : seen.names ≡ k = omega (arith, is) in subst (λ n. IsKnownLoadedAt (take n p) c.bring.new.inodes.root) same c.in_ok-bring-in-Dir.ensures.ok;
     }
 
 pub returns-then-seen-path-clause-leads : goal.returns-then-seen-path-clause-leads

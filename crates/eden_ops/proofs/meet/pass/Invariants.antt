@@ -2,7 +2,7 @@ use Rattle.std.proofs.Common.{◌≡◌, ◌≤◌, ◌+◌, ◌-◌, ℕ, [], �
 use Rattle.eden_model.specs.Trees.{Unlisted, walk}
 use Rattle.eden_cache.specs.Stock.{FindsTheSame}
 use Rattle.eden_ops.specs.Keeping.{Keeps}
-use Rattle.eden_ops.specs.Known.{known, IsLoadedAt}
+use Rattle.eden_ops.specs.Known.{known, IsKnownLoadedAt}
 use Rattle.eden_ops.proofs.Trailing.{IsNoted}
 use Rattle.eden_ops.proofs.meet.pass.Given as goal
 
@@ -15,7 +15,7 @@ invariant-fronts g l = record {
   cause : walk (known l.inodes.root) l.path ≡ Unlisted → walk (known l.fn.inodes.root) l.path ≡ Unlisted;
   noted : IsNoted l.path l.inodes.root l.fn.trail l.trail;
   few : l.loaded ≤ length l.path;
-  last : (k : ℕ) → k + 1 ≡ l.loaded → IsLoadedAt (take k l.path) l.inodes.root;
+  last : (k : ℕ) → k + 1 ≡ l.loaded → IsKnownLoadedAt (take k l.path) l.inodes.root;
 }
 
 abbrev pub decreases-fronts : goal.decreases-fronts

@@ -1,7 +1,7 @@
 use Rattle.std.proofs.Common.{◌++◌, [], List, refl, sym, ap, ◌∙◌, subst, append-nil}
 use Rattle.eden_model.specs.declared.tree_entry.TreeEntry.{TreeEntry}
 use Rattle.eden_model.specs.Trees.{Path}
-use Rattle.eden_snapshot.specs.Written.{IsSubmodule, StandsFor, Writes, entries_with}
+use Rattle.eden_snapshot.specs.Written.{IsSubmodule, StandsFor, WritesEntries, tree_entries_of}
 use Rattle.eden_snapshot.specs.Written as spec
 use Rattle.eden_snapshot.proofs.Joined.{none_yet, goes_on, by_mode, alone_object, alone_content, alone_directory, alone_void}
 use Rattle.eden_snapshot.proofs.walk.+walk.Goals as goal
@@ -13,7 +13,7 @@ directory-entries-init g t c =
     let front = c.args.trail.now in
     let filled = g.S.Sink.filled c.args.sink.now in
     record {
-      written = λ h. subst (λ (ts : List TreeEntry). Writes F K front [] ts filled filled) (sym c.new-tree.ensures.items) (none_yet F K front filled);
+      written = λ h. subst (λ (ts : List TreeEntry). WritesEntries F K front [] ts filled filled) (sym c.new-tree.ensures.items) (none_yet F K front filled);
       unchanged = λ h. refl;
       known = λ h. refl;
       back = refl;
@@ -24,12 +24,12 @@ pub directory-entries-preserved-in-Continue-branch-3 :
 directory-entries-preserved-in-Continue-branch-3 g t c =
     let e = c.in-Some.entry in
     let ts = c.entries.tree.items in
-    let all = c.in_ok-push.ensures.items ∙ ap (λ us. ts ++ us) (ap (entries_with e) (sym c.in-Some-found.is)) in
+    let all = c.in_ok-push.ensures.items ∙ ap (λ us. ts ++ us) (ap (tree_entries_of e) (sym c.in-Some-found.is)) in
     record {
       written = λ h.
           goes_on (g.F.Files.stored c.stored_entries.new.overlay) (g.F.Files.stored c.entries.overlay) (g.M.Submodules.known c.args.submodules.now)
           (g.M.Submodules.known c.entries.submodules) c.args.trail.now c.entries.trail c.entries.yielded ts c.push.new.self.items e
-          (entries_with e c.in_ok-found.found) (g.S.Sink.filled c.args.sink.now) (g.S.Sink.filled c.entries.sink) (g.S.Sink.filled c.object_of.new.sink)
+          (tree_entries_of e c.in_ok-found.found) (g.S.Sink.filled c.args.sink.now) (g.S.Sink.filled c.entries.sink) (g.S.Sink.filled c.object_of.new.sink)
           (c.entries.invariant.unchanged h) (c.entries.invariant.known h) c.entries.invariant.back all (c.entries.invariant.written h)
           (c.in_ok-found.ensures.written h);
       unchanged = λ h. c.object_of.ensures.unchanged h ∙ c.entries.invariant.unchanged h;
@@ -41,12 +41,12 @@ pub directory-entries-preserved : goal.directory-entries-preserved
 directory-entries-preserved g t c =
     let e = c.in-Some.entry in
     let ts = c.entries.tree.items in
-    let all = sym (append-nil ts) ∙ ap (λ us. ts ++ us) (ap (entries_with e) (sym c.in_default.is)) in
+    let all = sym (append-nil ts) ∙ ap (λ us. ts ++ us) (ap (tree_entries_of e) (sym c.in_default.is)) in
     record {
       written = λ h.
           goes_on (g.F.Files.stored c.stored_entries.new.overlay) (g.F.Files.stored c.entries.overlay) (g.M.Submodules.known c.args.submodules.now)
           (g.M.Submodules.known c.entries.submodules) c.args.trail.now c.entries.trail c.entries.yielded ts ts e
-          (entries_with e c.in_ok-found.found) (g.S.Sink.filled c.args.sink.now) (g.S.Sink.filled c.entries.sink) (g.S.Sink.filled c.object_of.new.sink)
+          (tree_entries_of e c.in_ok-found.found) (g.S.Sink.filled c.args.sink.now) (g.S.Sink.filled c.entries.sink) (g.S.Sink.filled c.object_of.new.sink)
           (c.entries.invariant.unchanged h) (c.entries.invariant.known h) c.entries.invariant.back all (c.entries.invariant.written h)
           (c.in_ok-found.ensures.written h);
       unchanged = λ h. c.object_of.ensures.unchanged h ∙ c.entries.invariant.unchanged h;
@@ -58,12 +58,12 @@ pub directory-entries-preserved-in_default : goal.directory-entries-preserved-in
 directory-entries-preserved-in_default g t c =
     let e = c.in-Some.entry in
     let ts = c.entries.tree.items in
-    let all = sym (append-nil ts) ∙ ap (λ us. ts ++ us) (ap (entries_with e) (sym c.in_default.is)) in
+    let all = sym (append-nil ts) ∙ ap (λ us. ts ++ us) (ap (tree_entries_of e) (sym c.in_default.is)) in
     record {
       written = λ h.
           goes_on (g.F.Files.stored c.stored_entries.new.overlay) (g.F.Files.stored c.entries.overlay) (g.M.Submodules.known c.args.submodules.now)
           (g.M.Submodules.known c.entries.submodules) c.args.trail.now c.entries.trail c.entries.yielded ts ts e
-          (entries_with e c.in_ok-found.found) (g.S.Sink.filled c.args.sink.now) (g.S.Sink.filled c.entries.sink) (g.S.Sink.filled c.object_of.new.sink)
+          (tree_entries_of e c.in_ok-found.found) (g.S.Sink.filled c.args.sink.now) (g.S.Sink.filled c.entries.sink) (g.S.Sink.filled c.object_of.new.sink)
           (c.entries.invariant.unchanged h) (c.entries.invariant.known h) c.entries.invariant.back all (c.entries.invariant.written h)
           (c.in_ok-found.ensures.written h);
       unchanged = λ h. c.object_of.ensures.unchanged h ∙ c.entries.invariant.unchanged h;

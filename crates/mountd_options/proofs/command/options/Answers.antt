@@ -2,7 +2,7 @@ use Rattle.std.proofs.Common.{rules, ◌≡◌, refl, inl, inr, Some, map}
 use Rattle.clap.specs.Matches.{found_of, subcommand_name_of}
 use Rattle.clap.specs.Simple.{subcommand_of, subcommand_rows_of}
 use Rattle.mountd_options.specs.CommandLine.{AreServed, IsChanges, IsDematerialise, IsFolder, IsImport, IsMount, IsRepair, IsServed, IsSnapshot, IsTaken, IsTidy}
-use Rattle.mountd_options.specs.CommandLine.{Refuses, changes, dematerialise, fuse, import, mountd_line, objects, repair, serve, snapshot, stdio, tidy}
+use Rattle.mountd_options.specs.CommandLine.{RefusesWords, changes, dematerialise, fuse, import, mountd_line, objects, repair, serve, snapshot, stdio, tidy}
 use Rattle.mountd_options.specs.declared.command.MountCommand.TheVariants as by
 use Rattle.mountd_options.proofs.LineLemmas.{by_words, import-named, met-named, named-met, objects_refuse, repair_refuses, required-taken, values_refuse}
 use Rattle.mountd_options.proofs.command.options.Goals as goal
@@ -25,7 +25,7 @@ returns-in_err-mount_options-clause-err g c =
     let rows : subcommand_rows_of c.in_ok-matches.matches ≡ subcommand_of mountd_line words = search rules in
     let name : subcommand_name_of c.in_ok-matches.matches ≡ Some stdio.0 = c.in-Some.ensures.found.0 refl in
     let met = met-named words c.in_ok-matches.matches f stdio.0 rows name c.in-Some.ensures.rows in
-    let refused : Refuses words why = values_refuse by.Stdio words f why taken met c.in_err-mount_options.ensures.err in
+    let refused : RefusesWords words why = values_refuse by.Stdio words f why taken met c.in_err-mount_options.ensures.err in
     search rules
 
 pub returns-in-Some-clause-ok : goal.returns-in-Some-clause-ok
@@ -56,7 +56,7 @@ returns-in_err-serve_options-clause-err g c =
     let rows : subcommand_rows_of c.in_ok-matches.matches ≡ subcommand_of mountd_line words = search rules in
     let name : subcommand_name_of c.in_ok-matches.matches ≡ Some serve.0 = c.in-Some-subcommand_matches.ensures.found.0 refl in
     let met = met-named words c.in_ok-matches.matches f serve.0 rows name c.in-Some-subcommand_matches.ensures.rows in
-    let refused : Refuses words why = values_refuse by.Serve words f why taken met c.in_err-serve_options.ensures.err in
+    let refused : RefusesWords words why = values_refuse by.Serve words f why taken met c.in_err-serve_options.ensures.err in
     search rules
 
 pub returns-in-Some-subcommand_matches-clause-ok : goal.returns-in-Some-subcommand_matches-clause-ok
@@ -78,7 +78,7 @@ returns-in_err-objects_options-clause-err g c =
     let rows : subcommand_rows_of c.in_ok-matches.matches ≡ subcommand_of mountd_line words = search rules in
     let name : subcommand_name_of c.in_ok-matches.matches ≡ Some objects.0 = c.in-Some-subcommand_matches-2.ensures.found.0 refl in
     let met = met-named words c.in_ok-matches.matches f objects.0 rows name c.in-Some-subcommand_matches-2.ensures.rows in
-    let refused : Refuses words why = objects_refuse words f why taken met c.in_err-objects_options.ensures.err in
+    let refused : RefusesWords words why = objects_refuse words f why taken met c.in_err-objects_options.ensures.err in
     search rules
 
 pub returns-in-Some-subcommand_matches-2-clause-ok : goal.returns-in-Some-subcommand_matches-2-clause-ok
@@ -129,7 +129,7 @@ returns-in_err-repair_options-clause-err g c =
     let rows : subcommand_rows_of c.in_ok-matches.matches ≡ subcommand_of mountd_line words = search rules in
     let name : subcommand_name_of c.in_ok-matches.matches ≡ Some repair.0 = c.in-Some-subcommand_matches-4.ensures.found.0 refl in
     let met = met-named words c.in_ok-matches.matches f repair.0 rows name c.in-Some-subcommand_matches-4.ensures.rows in
-    let refused : Refuses words why = repair_refuses words f why taken met c.in_err-repair_options.ensures.err in
+    let refused : RefusesWords words why = repair_refuses words f why taken met c.in_err-repair_options.ensures.err in
     search rules
 
 pub returns-in-Some-subcommand_matches-4-clause-ok : goal.returns-in-Some-subcommand_matches-4-clause-ok
@@ -161,7 +161,7 @@ returns-in_err-snapshot_options-clause-err g c =
     let rows : subcommand_rows_of c.in_ok-matches.matches ≡ subcommand_of mountd_line words = search rules in
     let name : subcommand_name_of c.in_ok-matches.matches ≡ Some snapshot.0 = c.in-Some-subcommand_matches-5.ensures.found.0 refl in
     let met = met-named words c.in_ok-matches.matches f snapshot.0 rows name c.in-Some-subcommand_matches-5.ensures.rows in
-    let refused : Refuses words why = values_refuse by.Snapshot words f why taken met c.in_err-snapshot_options.ensures.err in
+    let refused : RefusesWords words why = values_refuse by.Snapshot words f why taken met c.in_err-snapshot_options.ensures.err in
     search rules
 
 pub returns-in-Some-subcommand_matches-5-clause-ok : goal.returns-in-Some-subcommand_matches-5-clause-ok
@@ -193,7 +193,7 @@ returns-in_err-fuse_options-clause-err g c =
     let rows : subcommand_rows_of c.in_ok-matches.matches ≡ subcommand_of mountd_line words = search rules in
     let name : subcommand_name_of c.in_ok-matches.matches ≡ Some fuse.0 = c.in-Some-subcommand_matches-6.ensures.found.0 refl in
     let met = met-named words c.in_ok-matches.matches f fuse.0 rows name c.in-Some-subcommand_matches-6.ensures.rows in
-    let refused : Refuses words why = values_refuse by.Fuse words f why taken met c.in_err-fuse_options.ensures.err in
+    let refused : RefusesWords words why = values_refuse by.Fuse words f why taken met c.in_err-fuse_options.ensures.err in
     search rules
 
 pub returns-in-Some-subcommand_matches-6-clause-ok : goal.returns-in-Some-subcommand_matches-6-clause-ok
@@ -225,7 +225,7 @@ returns-in_err-changes_options-clause-err g c =
     let rows : subcommand_rows_of c.in_ok-matches.matches ≡ subcommand_of mountd_line words = search rules in
     let name : subcommand_name_of c.in_ok-matches.matches ≡ Some changes.0 = c.in-Some-subcommand_matches-7.ensures.found.0 refl in
     let met = met-named words c.in_ok-matches.matches f changes.0 rows name c.in-Some-subcommand_matches-7.ensures.rows in
-    let refused : Refuses words why = values_refuse by.Changes words f why taken met c.in_err-changes_options.ensures.err in
+    let refused : RefusesWords words why = values_refuse by.Changes words f why taken met c.in_err-changes_options.ensures.err in
     search rules
 
 pub returns-in-Some-subcommand_matches-7-clause-ok : goal.returns-in-Some-subcommand_matches-7-clause-ok
@@ -257,7 +257,7 @@ returns-in_err-dematerialise_options-clause-err g c =
     let rows : subcommand_rows_of c.in_ok-matches.matches ≡ subcommand_of mountd_line words = search rules in
     let name : subcommand_name_of c.in_ok-matches.matches ≡ Some dematerialise.0 = c.in-Some-subcommand_matches-8.ensures.found.0 refl in
     let met = met-named words c.in_ok-matches.matches f dematerialise.0 rows name c.in-Some-subcommand_matches-8.ensures.rows in
-    let refused : Refuses words why = values_refuse by.Dematerialise words f why taken met c.in_err-dematerialise_options.ensures.err in
+    let refused : RefusesWords words why = values_refuse by.Dematerialise words f why taken met c.in_err-dematerialise_options.ensures.err in
     search rules
 
 pub returns-in-Some-subcommand_matches-8-clause-ok : goal.returns-in-Some-subcommand_matches-8-clause-ok

@@ -1,7 +1,7 @@
 use Rattle.std.proofs.Common.{rules, ◌≡◌, ◌≢◌, ◌≤◌, inl, inr, length, Some, None, [], ◌∷◌, ap, refl, sym, subst, arith, length-append, ◌++◌, ◌∙◌}
 use Rattle.std.proofs.lemmas.Option.{none-some}
 use Rattle.std.specs.BTreeMap.{get}
-use Rattle.eden_fuse_nodes.specs.Tables.{Table, IsTable, place_of, root}
+use Rattle.eden_fuse_nodes.specs.Tables.{Table, IsNodeTable, place_of, root}
 use Rattle.eden_fuse_nodes.proofs.Orders.{order}
 use Rattle.eden_fuse_nodes.proofs.Changes.{is_table, root_nowhere}
 use Rattle.eden_fuse_nodes.proofs.Heights.{ended}
@@ -12,7 +12,7 @@ pub returns-in-None : goal.returns-in-None
 returns-in-None c =
     let t = c.args.self.now in
     let l = c.loop-height in
-    let table : IsTable t = subst (λ (s : Table). IsTable s) c.self.view_is
+    let table : IsNodeTable t = subst (λ (s : Table). IsNodeTable s) c.self.view_is
     (is_table (get order c.self.inside.places) c.self.inside.nodes.entries c.self.inside.next c.self.invariant) in
     let here : place_of t l.node ≡ None = search rules in
     ended t table c.args.id l.node l.invariant.0 l.invariant.1 (inl here)
@@ -36,7 +36,7 @@ pub returns : goal.returns
 returns c =
     let t = c.args.self.now in
     let l = c.loop-height in
-    let table : IsTable t = subst (λ (s : Table). IsTable s) c.self.view_is
+    let table : IsNodeTable t = subst (λ (s : Table). IsNodeTable s) c.self.view_is
     (is_table (get order c.self.inside.places) c.self.inside.nodes.entries c.self.inside.next c.self.invariant) in
     let many : length t ≤ c.len-height-end.result = search rules in
     ended t table c.args.id l.node l.invariant.0 l.invariant.1

@@ -1,10 +1,10 @@
-use Rattle.eden_tree.specs.Places.{IsAt, IsGap}
+use Rattle.eden_tree.specs.Places.{IsPlaceOf, IsGap}
 use Rattle.eden_tree.proofs.RowLemmas.{key-at, find_row-gap}
 use Rattle.eden_tree.proofs.dir.Dir.get_counted.Goals as goal
 
 pub returns-in-Ok-clause-found : goal.returns-in-Ok-clause-found
 returns-in-Ok-clause-found g c =
-    let place : IsAt c.self.inside.items.items c.args.name.now c.in-Ok.i = rw (c.deref.ensures.value, c.in-Ok.is) at c.search-found.ensures.found in
+    let place : IsPlaceOf c.self.inside.items.items c.args.name.now c.in-Ok.i = rw (c.deref.ensures.value, c.in-Ok.is) at c.search-found.ensures.found in
     rw (← c.self.view_is) (key-at c.self.inside.items.items _ _ place)
 
 pub returns-in-Err-clause-absent : goal.returns-in-Err-clause-absent
