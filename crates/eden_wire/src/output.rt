@@ -122,7 +122,7 @@ impl Output {
     // Hands over the bytes where there is no room for them beside what is held.
     #[inline(never)]
     fn put_beyond<W: Write>(&mut self, writer: &mut W, bytes: &[u8])
-        ensures { Grows (W.contents writer.old) (W.contents writer.new) self.old self.new bytes.now }
+        ensures { HandsOver (W.contents writer.old) (W.contents writer.new) self.old self.new bytes.now }
     {
         self.write_out(writer);
         self.put_first(writer, bytes);

@@ -36,7 +36,7 @@ pub fn read_request(alloc: Global, line: &[u8]) -> Result<Item, AllocError>
 // The same for every line, in two passes: nothing is read into memory before the whole line was looked through.
 #[inline(never)]
 fn read_any(alloc: Global, line: &[u8]) -> Result<Item, AllocError>
-    ensures item { IfOk result (Reads line.now) }
+    ensures item { IfOk result (IsReadAs line.now) }
     ensures memory { OnErr result (AsksSome line.now) }
 {
     let (first, fields) = line.split_at(part_len(line, b' '));
