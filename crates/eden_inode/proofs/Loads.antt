@@ -237,4 +237,4 @@ pub length_there : (R : Repository) (F : Stored) (x : Row) (next : ℕ) (p : Pat
 length_there R F x next p z (Err e) table kept at file own told = tt
 length_there R F x next p z (Ok len) table kept at file own told = λ y there.
     let held = own_held R F x next table kept z (place_at p x z at) file own in
-    subst (λ (w : Row). HoldsLength F w.number len) (same_some z y (sym at ∙ there)) (held.0, (held.1, length_held F z.number len held.0 told_get_fault held.1))
+    subst (λ (w : Row). HoldsLength F w.number len) (same_some z y (sym at ∙ there)) (held.0, (held.1, length_held F z.number len held.0 told held.1))
