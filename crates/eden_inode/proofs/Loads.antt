@@ -128,13 +128,13 @@ stands_on_tree p x y i at there o from (inr empty) =
 -- numbers that are told to be saved for it are
 pub numbers_there : (honest : Type 0) (F : Stored) (p : Path) (x : Row) (i : Id) (at : IsAt p x (origin.Object i)) (y : Row) (tree : Id) (r : Result Bool Fault)
     → row_at p x ≡ Some y → y.origin ≡ origin.Object tree → (honest → IfOk r (λ b. b ≡ is_some (saved_at F y.number tree))) → IfOk r (λ b. IsTrue b → HasNumbers honest F p x)
-numbers_there honest F p x i at y tree (Err e) there from told_get_fault = tt
-numbers_there honest F p x i at y tree (Ok b) there from told_get_fault = λ yes.
+numbers_there honest F p x i at y tree (Err e) there from told = tt
+numbers_there honest F p x i at y tree (Ok b) there from told = λ yes.
     let same = at_origin p x y (origin.Object i) at there in
     record {
       id = tree;
       at = record { row = y; there = there; kind = ap (λ (r : Row). r.kind) (sym same) ∙ at.kind; unloaded = ap child_of (sym same) ∙ at.unloaded; origin = from };
-      saved = λ h. sym (told_get_fault h) ∙ yes;
+      saved = λ h. sym (told h) ∙ yes;
     }
 
 not_saved : (o : Option (List StoredEntry)) → IsSome o → o ≡ None → ⊥
@@ -234,7 +234,7 @@ length_why file honest old new get.Memory why rose = tt
 -- one that is told is that of the content, which is stored
 pub length_there : (R : Repository) (F : Stored) (x : Row) (next : ℕ) (p : Path) (z : Row) (r : Result ℕ Fault) → IsTable x next → IsKept R F x next → row_at p x ≡ Some z
     → z.kind ≢ kind.Dir → z.origin ≡ origin.Own → IfOk r (TellsLength F z.number) → IfOk r (λ len. (y : Row) → row_at p x ≡ Some y → HoldsLength F y.number len)
-length_there R F x next p z (Err e) table kept at file own told_get_fault = tt
-length_there R F x next p z (Ok len) table kept at file own told_get_fault = λ y there.
+length_there R F x next p z (Err e) table kept at file own told = tt
+length_there R F x next p z (Ok len) table kept at file own told = λ y there.
     let held = own_held R F x next table kept z (place_at p x z at) file own in
-    subst (λ (w : Row). HoldsLength F w.number len) (same_some z y (sym at ∙ there)) (held.0, (held.1, length_held F z.number len held.0 told_get_fault held.1))
+    subst (λ (w : Row). HoldsLength F w.number len) (same_some z y (sym at ∙ there)) (held.0, (held.1, length_held F z.number len held.0 told held.1))
