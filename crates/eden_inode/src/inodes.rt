@@ -117,13 +117,6 @@ impl<A: Allocator + Clone, W: World, F: Files<W>> Inodes<A, W, F> {
         let _ = &self.root;
     }
 
-    /// How often the device failed so far; it stays at 2^64 - 1.
-    pub fn failures(&self) -> u64
-        ensures { result ≡ F.failures self.now.files }
-    {
-        self.overlay.failures()
-    }
-
     /// What kept the device from storing when it was to store last; None where it stored, or didn't say.
     pub fn obstacle(&self) -> Option<Obstacle> {
         self.overlay.obstacle()

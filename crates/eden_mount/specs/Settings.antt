@@ -10,13 +10,19 @@ pub record Settings : Type 0 where
   -- how long the history may become
   pub history : ℕ
   -- how many objects are cached, of how many bytes together, and how many sizes
-  pub entries : ℕ
-  pub bytes : ℕ
-  pub sizes : ℕ
+  pub cache_entries : ℕ
+  pub cache_bytes : ℕ
+  pub cache_sizes : ℕ
 
 abbrev pub settings_from : ℕ → ℕ → ℕ → ℕ → ℕ → ℕ → Settings
-settings_from passes flights history entries bytes sizes =
-    record { passes = passes; flights = flights; history = history; entries = entries; bytes = bytes; sizes = sizes }
+settings_from passes flights history cache_entries cache_bytes cache_sizes = record {
+  passes = passes;
+  flights = flights;
+  history = history;
+  cache_entries = cache_entries;
+  cache_bytes = cache_bytes;
+  cache_sizes = cache_sizes;
+}
 
 -- the limits of each
 pub record InLimits (s : Settings) : Type 0 where
@@ -24,9 +30,9 @@ pub record InLimits (s : Settings) : Type 0 where
   pub flights : IsFlightCount s.flights
   pub some_history : 1 ≤ s.history
   pub short_history : s.history < 2 ^ 32
-  pub entries : IsObjectBound s.entries
-  pub bytes : IsByteBound s.bytes
-  pub sizes : IsSizeBound s.sizes
+  pub cache_entries : IsObjectBound s.cache_entries
+  pub cache_bytes : IsByteBound s.cache_bytes
+  pub cache_sizes : IsSizeBound s.cache_sizes
 
 -- the room of a mount in which nothing has happened
 pub record Room : Type 0 where

@@ -11,9 +11,9 @@ pub struct Config {
     passes: u32,
     flights: u32,
     history: u32,
-    entries: usize,
-    bytes: u64,
-    sizes: usize,
+    cache_entries: usize,
+    cache_bytes: u64,
+    cache_sizes: usize,
 }
 
 impl Model for Config {
@@ -21,9 +21,10 @@ impl Model for Config {
 
     ghost Value = { Settings };
 
-    ghost view = { λ c. settings_from c.passes c.flights c.history c.entries c.bytes c.sizes };
+    ghost view = { λ c. settings_from c.passes c.flights c.history c.cache_entries c.cache_bytes c.cache_sizes };
 
-    ghost invariant = { λ c. InLimits (settings_from c.passes c.flights c.history c.entries c.bytes c.sizes) };
+    ghost invariant = { λ c.
+        InLimits (settings_from c.passes c.flights c.history c.cache_entries c.cache_bytes c.cache_sizes) };
 }
 
 impl Config {
@@ -38,16 +39,18 @@ impl Config {
         passes: u32,
         flights: u32,
         history: u32,
-        entries: usize,
-        bytes: u64,
-        sizes: usize,
+        cache_entries: usize,
+        cache_bytes: u64,
+        cache_sizes: usize,
     ) -> Option<Config>
-        ensures limits { IsSome result ↔ InLimits (settings_from passes flights history entries bytes sizes) }
-        ensures value { IfSome result (λ c. c ≡ settings_from passes flights history entries bytes sizes) }
+        ensures limits { IsSome result
+            ↔ InLimits (settings_from passes flights history cache_entries cache_bytes cache_sizes) }
+        ensures value { IfSome result
+            (λ c. c ≡ settings_from passes flights history cache_entries cache_bytes cache_sizes) }
     {
         let within = are_counts(passes, flights)
             && 1 <= history
-            && are_bounds(entries, bytes, sizes);
+            && are_bounds(cache_entries, cache_bytes, cache_sizes);
         if !within {
             return None;
         }
@@ -55,9 +58,9 @@ impl Config {
             passes,
             flights,
             history,
-            entries,
-            bytes,
-            sizes,
+            cache_entries,
+            cache_bytes,
+            cache_sizes,
         })
     }
 
@@ -90,23 +93,23 @@ impl Config {
     }
 
     /// How many cached objects.
-    pub fn entries(&self) -> usize
-        ensures { result ≡ self.now.entries }
+    pub fn cache_entries(&self) -> usize
+        ensures { result ≡ self.now.cache_entries }
     {
-        self.entries
+        self.cache_entries
     }
 
     /// How many bytes of cached objects together.
-    pub fn bytes(&self) -> u64
-        ensures { result ≡ self.now.bytes }
+    pub fn cache_bytes(&self) -> u64
+        ensures { result ≡ self.now.cache_bytes }
     {
-        self.bytes
+        self.cache_bytes
     }
 
     /// How many cached sizes.
-    pub fn sizes(&self) -> usize
-        ensures { result ≡ self.now.sizes }
+    pub fn cache_sizes(&self) -> usize
+        ensures { result ≡ self.now.cache_sizes }
     {
-        self.sizes
+        self.cache_sizes
     }
 }

@@ -1,18 +1,22 @@
 -- What is left once directories went.
-use Rattle.std.proofs.Common.{◌≡◌, ◌⊎◌, ℕ, Bool, true, [], ◌∷◌, ◌++◌, Option, Some, None, sym, refl, ◌∙◌, ap, subst, inl, inr}
+use Rattle.std.proofs.Common.{◌≡◌, ◌⊎◌, ◌<◌, ℕ, zero, suc, Bool, true, [], ◌∷◌, ◌++◌, Option, Some, None, IsSome, sym, refl, ◌∙◌, ap, subst, inl, inr, arith}
+use Rattle.std.proofs.lemmas.Bool.{false≢true}
 use Rattle.std.proofs.lemmas.List.{append-nil}
 use Rattle.std.proofs.lemmas.Option.{same_Some, none-some}
 use Rattle.std.specs.Option.{option_map, option_and_then}
 use Rattle.eden_model.specs.Paths.{behind_of}
 use Rattle.eden_model.specs.Trees.{Name, Path, grafted}
 use Rattle.eden_model.proofs.CallerLemmas.{behind_sound}
+use Rattle.eden_overlay.specs.declared.files.FilesFault.{FilesFault}
 use Rattle.eden_overlay.specs.Files.{Stored}
-use Rattle.eden_tree.specs.Directory.{Row, Directory, child_of, with_child}
+use Rattle.eden_tree.specs.Directory.{Row, Directory, child_of, with_child, row_size}
 use Rattle.eden_tree.specs.Rows.{find_row}
 use Rattle.eden_tree.specs.Paths.{row_at, edit_row, Standing, standing, standing_at}
-use Rattle.eden_tree.proofs.CallerLemmas.{reads_on, edits_one, edits_there, edits_not_beside, edits_nothing, child_of-with_child, row_at-unloaded}
+use Rattle.eden_tree.proofs.CallerLemmas.{reads_on, edits_one, edits_there, edits_not_beside, edits_nothing, child_of-with_child, row_at-unloaded, steps_down}
+use Rattle.eden_tree.proofs.CallerLemmas.{row_size-find_row, directory_size-child_of}
 use Rattle.eden_coupling.specs.Chains.{IsLoadedAt, IsUnsavedAt, NoneMarked, StaysLoaded}
 use Rattle.eden_coupling.specs.NumberUnloads.{UnloadsAway, none, one_more, same_files}
+use Rattle.eden_coupling.specs.Unloading.{HasNoneInside, IsSettled}
 use Rattle.eden_coupling.proofs.CallerLemmas.{map_some, loaded_there, Loaded, loaded_found, mark_of, unsaved_standing, standing_unsaved}
 use Rattle.eden_ops.specs.Changes.{SameNames}
 use Rattle.eden_ops.specs.Letting.{IsLeft, LetsGo}
@@ -169,3 +173,26 @@ module _ (p : Path) (x z : Row) (g : LetsGo p x z) where
       let was = g.left p (standing v) (ap (option_map standing) now) in
       let one : was.0 ≡ standing y = same_Some was.0 (standing y) (sym was.1.0 ∙ ap (option_map standing) at) in
       (v, (now, subst (λ (s : Standing). IsLeft s (standing v)) one was.1.1))
+
+-- ---- a store that was not refused leaves none loaded
+
+-- at and below the entry no directory is loaded that has none inside
+abbrev HasNoLeaf : Row → Type 0
+HasNoLeaf x = (p : Path) (y : Row) (d : Directory) → row_at p x ≡ Some y → child_of y ≡ Some d → HasNoneInside d → ⊥
+
+-- then none is loaded at all: the deepest one would have none inside
+shut : (x : Row) → ((z : Row) → row_size z < row_size x → HasNoLeaf z → child_of z ≡ None) → HasNoLeaf x → (o : Option Directory) → child_of x ≡ o → child_of x ≡ None
+shut x smaller leaf None is = is
+shut x smaller leaf (Some d) is = absurd (leaf [] x d refl is (λ n z found.
+    let inside = row_size-find_row n d.rows z found in
+    let below = directory_size-child_of x d is in
+    smaller z (omega (arith, inside, below)) (λ p y e at. leaf (n ∷ p) y e (steps_down n p x z d is found ∙ at))))
+
+leafless : (k : ℕ) (x : Row) → row_size x < k → HasNoLeaf x → child_of x ≡ None
+leafless zero x less leaf = absurd (omega (arith, less))
+leafless (suc k) x less leaf = shut x (λ z smaller inside. leafless k z (omega (arith, less, smaller)) inside) leaf (child_of x) refl
+
+pub none_left : (clock : ℕ) (refused : Option FilesFault) (x : Row) → refused ≡ None → IsSettled clock 0 refused x → child_of x ≡ None
+none_left clock refused x is settled = leafless (suc (row_size x)) x (omega (arith)) no_leaf where
+  no_leaf : HasNoLeaf x
+  no_leaf p y d at holds inside = false≢true (subst (λ (o : Option FilesFault). IsSome o) is (settled p y d at holds (omega (arith)) inside).1)

@@ -5,17 +5,18 @@ ghost use Rattle.eden_tree.specs.Directory.{Row, child_of};
 ghost use Rattle.eden_tree.specs.Paths.{row_at};
 ghost use Rattle.eden_inode.specs.Tables.{shows, ShowsSameNumbers};
 ghost use Rattle.eden_inode.specs.Trails.{KeepsPlaces};
-ghost use Rattle.eden_materialise.specs.Faults.{IsStoreFault};
+ghost use Rattle.eden_materialise.specs.Faults.{IsStoreFault, told_files_fault};
 ghost use Rattle.eden_ops.specs.Letting.{LetsGo};
 
 use eden_inode::Inodes;
 use eden_model::{Fault, Name, World};
-use eden_overlay::Files;
+use eden_overlay::{Files, FilesFault};
 use std::alloc::{Allocator, Global};
 
 /// Lets go of every directory that is loaded at and below a path; an unsaved one is stored first.
 ///
-/// Errors: `Overlay` where the device failed, and `Memory`: then some of them are still loaded.
+/// Errors: `Overlay` where the device failed, and `Memory` where that alone was wanting: then some of them are still
+/// loaded.
 pub fn let_go<A: Allocator + Clone, W: World, F: Files<W>>(
     inodes: &mut Inodes<A, W, F>,
     alloc: Global,
@@ -32,13 +33,18 @@ pub fn let_go<A: Allocator + Clone, W: World, F: Files<W>>(
     ensures places { KeepsPlaces inodes.old inodes.new }
     ensures rest { (inodes.new.next ≡ inodes.old.next) × (inodes.new.clock ≡ inodes.old.clock) }
 {
-    let failures = inodes.failures();
-    inodes.unload(alloc, path, 0);
-    if inodes.failures() > failures {
-        return Err(Fault::Overlay);
+    match inodes.unload(alloc, path, 0).refused {
+        None => Ok(()),
+        Some(fault) => Err(told(fault)),
     }
-    if inodes.directory(path).is_none() {
-        return Ok(());
+}
+
+// What refused a store, as a mount tells it.
+fn told(refused: FilesFault) -> Fault
+    ensures { result ≡ told_files_fault refused }
+{
+    match refused {
+        FilesFault::Device => Fault::Overlay,
+        FilesFault::Memory => Fault::Memory,
     }
-    Err(Fault::Memory)
 }

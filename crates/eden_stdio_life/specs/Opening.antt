@@ -29,7 +29,7 @@ module _ {W F : Type 0} (w : Ghosts W) (f : Files F W) where
   -- honest the checkout shows the opening tree, and numbers that back the opening ones.
   pub record IsOpened (base : Base) (settings : Settings) (files : F) (t : Checkout F) : Type 0 where
     pub commit : t.root ≡ base.root
-    pub cache : t.cache ≡ empty_cache settings.entries settings.bytes settings.sizes
+    pub cache : t.cache ≡ empty_cache settings.cache_entries settings.cache_bytes settings.cache_sizes
     pub next : w.honest → Finds base.opening base.root (f.stored files) t.inodes.next
     pub shown : w.honest → shows w f t.inodes ≡ w.opening
     pub backed : IsBacking w.numbers t

@@ -30,14 +30,15 @@ fn room<A: Allocator + Clone>(
     config: &Config,
 ) -> Result<(Room<A>, ObjectCache<A>), AllocError>
     ensures room { IfOk result (λ r. r.0 ≡ room_for config.now) }
-    ensures cache { IfOk result (λ r. r.1 ≡ empty_cache config.now.entries config.now.bytes config.now.sizes) }
+    ensures cache { IfOk result
+        (λ r. r.1 ≡ empty_cache config.now.cache_entries config.now.cache_bytes config.now.cache_sizes) }
 {
     config.holds();
     let cache = ObjectCache::new(
         memory.clone()?,
-        config.entries(),
-        config.bytes(),
-        config.sizes(),
+        config.cache_entries(),
+        config.cache_bytes(),
+        config.cache_sizes(),
     )?;
     let room = Room::new(alloc, memory.clone()?, config)?;
     Ok((room, cache))

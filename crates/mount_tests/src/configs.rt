@@ -6,27 +6,27 @@ struct Row {
     passes: u32,
     flights: u32,
     history: u32,
-    objects: usize,
-    bytes: u64,
-    sizes: usize,
+    cache_entries: usize,
+    cache_bytes: u64,
+    cache_sizes: usize,
 }
 
 const LEAST: Row = Row {
     passes: 1,
     flights: 1,
     history: 1,
-    objects: 1,
-    bytes: 1,
-    sizes: 1,
+    cache_entries: 1,
+    cache_bytes: 1,
+    cache_sizes: 1,
 };
 
 const MOST: Row = Row {
     passes: 64,
     flights: 64,
     history: 4_294_967_295,
-    objects: 65_536,
-    bytes: 1_099_511_627_776,
-    sizes: 65_536,
+    cache_entries: 65_536,
+    cache_bytes: 1_099_511_627_776,
+    cache_sizes: 65_536,
 };
 
 fn is_taken(row: Row) -> bool {
@@ -34,9 +34,9 @@ fn is_taken(row: Row) -> bool {
         row.passes,
         row.flights,
         row.history,
-        row.objects,
-        row.bytes,
-        row.sizes,
+        row.cache_entries,
+        row.cache_bytes,
+        row.cache_sizes,
     )
     .is_some()
 }
@@ -59,11 +59,17 @@ const UNDER: [Row; 6] = [
         ..LEAST
     },
     Row {
-        objects: 0,
+        cache_entries: 0,
         ..LEAST
     },
-    Row { bytes: 0, ..LEAST },
-    Row { sizes: 0, ..LEAST },
+    Row {
+        cache_bytes: 0,
+        ..LEAST
+    },
+    Row {
+        cache_sizes: 0,
+        ..LEAST
+    },
 ];
 
 /// The most, but for one number.
@@ -74,15 +80,15 @@ const OVER: [Row; 5] = [
         ..MOST
     },
     Row {
-        objects: 65_537,
+        cache_entries: 65_537,
         ..MOST
     },
     Row {
-        bytes: 1_099_511_627_777,
+        cache_bytes: 1_099_511_627_777,
         ..MOST
     },
     Row {
-        sizes: 65_537,
+        cache_sizes: 65_537,
         ..MOST
     },
 ];

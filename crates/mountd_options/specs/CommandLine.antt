@@ -174,9 +174,9 @@ pub record SaysLimits (command : MountCommand) (value : Text → Option Text) (l
   pub passes : SaysPasses command value limits.passes
   pub flights : limits.flights ≡ 16
   pub history : SaysNumber History 1000000 (value (number_name History)) limits.history
-  pub entries : SaysNumber CacheEntries 1024 (value (number_name CacheEntries)) limits.entries
-  pub bytes : SaysNumber CacheBytes (2 ^ 28) (value (number_name CacheBytes)) limits.bytes
-  pub sizes : limits.sizes ≡ 65536
+  pub cache_entries : SaysNumber CacheEntries 1024 (value (number_name CacheEntries)) limits.cache_entries
+  pub cache_bytes : SaysNumber CacheBytes (2 ^ 28) (value (number_name CacheBytes)) limits.cache_bytes
+  pub cache_sizes : limits.cache_sizes ≡ 65536
 
 -- where the objects are to come from: a folder or a server, and these values name one of them; or a repository, which they name
 -- with a server or without one

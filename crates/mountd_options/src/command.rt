@@ -64,7 +64,7 @@ const FETCHERS: u64 = 2;
 const THREADS: u64 = 1;
 
 /// How many lengths of contents are kept.
-const SIZES: usize = 65_536;
+const CACHE_SIZES: usize = 65_536;
 
 /// Where the objects of a mount come from.
 #[derive(Drop)]
@@ -611,10 +611,18 @@ fn limits(given: &ArgMatches, command: MountCommand) -> Result<Config, NumberOpt
 {
     let passes = passes(given, command)?;
     let history = number(given, NumberOption::History, HISTORY)? as u32;
-    let entries = number(given, NumberOption::CacheEntries, CACHE_ENTRIES)? as usize;
-    let bytes = number(given, NumberOption::CacheBytes, CACHE_BYTES)?;
+    let cache_entries = number(given, NumberOption::CacheEntries, CACHE_ENTRIES)? as usize;
+    let cache_bytes = number(given, NumberOption::CacheBytes, CACHE_BYTES)?;
     // What an option takes, a mount takes.
-    Ok(Config::new(passes, FLIGHTS, history, entries, bytes, SIZES).unwrap())
+    Ok(Config::new(
+        passes,
+        FLIGHTS,
+        history,
+        cache_entries,
+        cache_bytes,
+        CACHE_SIZES,
+    )
+    .unwrap())
 }
 
 /// How many callers there are of the mount that the command opens.

@@ -181,7 +181,9 @@ struct Wanted {
 
 fn has_limits(limits: &Config, want: (u32, usize, u64)) -> bool {
     let (history, objects, bytes) = want;
-    limits.history() == history && limits.entries() == objects && limits.bytes() == bytes
+    limits.history() == history
+        && limits.cache_entries() == objects
+        && limits.cache_bytes() == bytes
 }
 
 fn is_text(given: &Option<String>, want: Option<&str>) -> bool {
