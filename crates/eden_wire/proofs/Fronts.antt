@@ -1,6 +1,6 @@
 -- Lemmas on what stands at the front of a text.
 use Rattle.std.proofs.Common.{◌≡◌, ◌≢◌, ◌==◌, ℕ, ◌+◌, ◌-◌, ◌<◌, ◌≤◌, ◌^◌, List, [], ◌∷◌, ◌++◌, length, take, drop, get_or, Bool, true, false, Option, Some, None, decimal}
-use Rattle.std.proofs.Common.{sym, ap, ◌∙◌, refl, append_assoc, append-nil, take-append-drop, length-drop, length-take-le, arith}
+use Rattle.std.proofs.Common.{sym, ap, ◌∙◌, refl, append_assoc, append-nil, take-append-drop, length-append, length-drop, length-take-le, arith}
 use Rattle.std.proofs.lemmas.Bool.{ne_eqb}
 use Rattle.std.proofs.lemmas.Bool.Decides.{nat_tests}
 use Rattle.std.proofs.lemmas.List.{get_or-take}
@@ -81,8 +81,14 @@ named-append (n ∷ names) name all one =
     split : (x y : Option Errno) → option_or x y ≡ None → (x ≡ None) × (y ≡ None)
     split x y none = grind arith
 
-pub names_none : (text rest : List ℕ) (names : List (List ℕ)) → names ≡ [] → rest ≡ text → NamesFirst names text rest
-names_none text rest names none same = rw (none, same) (record { good = tt; whole = refl; named = refl; fits = omega arith })
+pub names_one : {names : List (List ℕ)} {text inside more : List ℕ} (name : List ℕ) → text ≡ 47 ∷ inside → NameFirst name inside more → names ≡ name ∷ []
+    → NamesFirst names text more
+names_one {names} {text} {inside} {more} name begins first names_is = rw names_is (record {
+  good = (first.good, tt);
+  whole = begins ∙ ap (λ l. 47 ∷ l) first.whole ∙ simp append_assoc;
+  named = rw first.named refl;
+  fits = omega (arith, first.fits, ap length begins);
+})
 
 begins_with : (b : ℕ) (text : List ℕ) → 0 < length text → get_or text 0 0 ≡ b → text ≡ b ∷ drop 1 text
 begins_with b [] some first = absurd (omega arith)
@@ -98,6 +104,9 @@ names_more {names} {grown} {text} {rest} {inside} {more} name so some slash insi
       named = named-append names name so.named next.named;
       fits = simp sum_by-append (omega (arith, so.fits, next.fits, ap length begins));
     })
+
+pub some_names : (names : List (List ℕ)) {grown : List (List ℕ)} (name : List ℕ) → grown ≡ names ++ name ∷ [] → 0 < length grown
+some_names names name grown_is = omega (arith, ap length grown_is, length-append names (name ∷ []))
 
 pub path_fits : (names : List (List ℕ)) → length names ≤ 256 → path_len names ≤ 4095 → path_refusal names ≡ None
 path_fits names few short = grind (arith, nat_tests)

@@ -1,4 +1,4 @@
-ghost use Rattle.std.specs.Prelude.{◌≡◌, ◌≤◌, ◌<◌, ◌^◌, ◌++◌, ◌∷◌, [], length, take, decimal, IsTrue, Some};
+ghost use Rattle.std.specs.Prelude.{◌≡◌, ◌≤◌, ◌++◌, ◌∷◌, [], length, take, decimal, Some};
 ghost use Rattle.std.specs.Option.{IfSome};
 ghost use Rattle.eden_wire.specs.Fields.Field.{of_path, of_number, of_bit, of_data, of_after};
 ghost use Rattle.eden_wire.specs.Requests.{spelling};
@@ -65,6 +65,16 @@ fn behind_space(text: &[u8]) -> Option<&[u8]>
     }
 }
 
+#[inline(always)]
+fn behind_slash(text: &[u8]) -> Option<&[u8]>
+    ensures { IfSome result (λ inside. text.now ≡ 47 ∷ inside.now) }
+{
+    match text {
+        [b'/', inside @ ..] => Some(inside),
+        _ => None,
+    }
+}
+
 // The name of bytes that stand for themselves at the front, and the text behind it.
 #[inline(always)]
 fn front_name(alloc: Global, text: &[u8]) -> Option<(Name, &[u8])>
@@ -88,33 +98,27 @@ fn front_name(alloc: Global, text: &[u8]) -> Option<(Name, &[u8])>
     Some((name, rest))
 }
 
-// Puts the name behind the others, if there is memory. Room is made only for the first name that was read, so that a
-// line which isn't plain takes none here.
-#[inline(always)]
-fn add_name(names: &mut Vec<Name>, name: Name) -> bool
-    ensures { IsTrue result → names.new.items ≡ names.old.items ++ name ∷ [] }
-{
-    if names.is_empty() && names.reserve(FEW).is_err() {
-        return false;
-    }
-    names.push(name).is_ok()
-}
-
-// The names at the front, each behind a slash, and the text behind them.
+// The names at the front, each behind a slash, and the text behind them. Room is made only for the first name that was
+// read, so that a line which isn't plain takes none here.
 #[inline(always)]
 fn front_names(alloc: Global, text: &[u8]) -> Option<(Path, &[u8])>
     ensures { IfSome result (λ x. FieldFirst (of_path x.0) (32 ∷ text.now) x.1.now) }
 {
-    let mut names = Vec::new(alloc);
-    let mut rest = text;
+    let (first, mut rest) = front_name(alloc, behind_slash(text)?)?;
+    let Ok(mut names) = Vec::with_capacity(alloc, FEW) else {
+        return None;
+    };
+    let Ok(()) = names.push(first) else {
+        return None;
+    };
     'parts: while !rest.is_empty() && rest[0] == b'/' {
         let (name, more) = front_name(alloc, &rest[1..])?;
-        if !add_name(&mut names, name) {
+        let Ok(()) = names.push(name) else {
             return None;
-        }
+        };
         rest = more;
     }
-    if names.is_empty() || names.len() > MAX_NAMES || text.len() - rest.len() > MAX_PATH {
+    if names.len() > MAX_NAMES || text.len() - rest.len() > MAX_PATH {
         return None;
     }
     Some((Path::from_judged(names), rest))
