@@ -1,5 +1,5 @@
 ghost use Rattle.std.specs.Prelude.{◌≡◌, ◌≤◌, ◌<◌, ◌++◌, ◌&&◌, List, [], ◌∷◌, ℕ, length, take};
-ghost use Rattle.std.specs.Prelude.{true, if◌then◌else◌, MatchOption};
+ghost use Rattle.std.specs.Prelude.{true, if◌then◌else◌, IsTrue, MatchOption};
 ghost use Rattle.std.specs.List.{list_all};
 ghost use Rattle.eden_wire.specs.Names.{is_plain, upper_digit, byte_text};
 
@@ -46,6 +46,18 @@ pub(crate) fn plain_len(text: &[u8]) -> usize
     ensures within { result ≤ length text.now }
     ensures plain { list_all is_plain (take result text.now) ≡ true }
 {
+    'bytes: for i in 0..text.len() {
+        if !is_plain(text[i]) {
+            return i;
+        }
+    }
+    text.len()
+}
+
+/// Whether all bytes stand for themselves.
+pub(crate) fn are_all_plain(text: &[u8]) -> bool
+    ensures { IsTrue result → list_all is_plain text.now ≡ true }
+{
     let mut fours = 0;
     'fours: while text.len() - fours >= 4
         && are_plain(
@@ -59,10 +71,10 @@ pub(crate) fn plain_len(text: &[u8]) -> usize
     }
     'bytes: for i in fours..text.len() {
         if !is_plain(text[i]) {
-            return i;
+            return false;
         }
     }
-    text.len()
+    true
 }
 
 /// The digit's number, if it is one in upper case.

@@ -10,7 +10,7 @@ ghost use Rattle.eden_wire.specs.Writing.{Writes, Grows};
 ghost use Rattle.eden_wire.specs.Names.{name_text};
 ghost use Rattle.eden_wire.specs.Replies.{kind_word, entry_text, error_text, cause_word, reply_text, answer_text};
 
-use crate::escape::plain_len;
+use crate::escape::are_all_plain;
 use crate::hex_text::encode;
 use crate::output::{Output, WriteFailed};
 use eden_model::{CallFault, Cause, Entries, Errno, Fault, Id, Kind, Name, Reply, StartFault};
@@ -55,7 +55,7 @@ fn put_number<W: Write>(output: &mut Output, writer: &mut W, n: u64)
 fn put_name<W: Write>(output: &mut Output, writer: &mut W, name: &[u8])
     ensures { Grows (W.contents writer.old) (W.contents writer.new) output.old output.new (name_text name.now) }
 {
-    if plain_len(name) == name.len() {
+    if are_all_plain(name) {
         output.put(writer, name);
         return;
     }
