@@ -1,7 +1,7 @@
 -- Lemmas on what stands at the front of a text.
 use Rattle.std.proofs.Common.{◌≡◌, ◌≢◌, ◌==◌, ℕ, ◌+◌, ◌-◌, ◌<◌, ◌≤◌, ◌^◌, List, [], ◌∷◌, ◌++◌, length, take, drop, get_or, Bool, true, false, Option, Some, None, decimal}
-use Rattle.std.proofs.Common.{sym, ap, ◌∙◌, refl, append_assoc, append-nil, take-append-drop, length-drop, length-take-le, arith}
-use Rattle.std.proofs.lemmas.Bool.{ne_eqb}
+use Rattle.std.proofs.Common.{sym, ap, ◌∙◌, refl, append_assoc, append-nil, take-append-drop, length-append, length-drop, length-take-le, arith}
+use Rattle.std.proofs.lemmas.Bool.{false≢true, ne_eqb}
 use Rattle.std.proofs.lemmas.Bool.Decides.{nat_tests}
 use Rattle.std.proofs.lemmas.List.{get_or-take}
 use Rattle.std.proofs.lemmas.List.Concat.{flat_map-append}
@@ -10,22 +10,24 @@ use Rattle.std.proofs.lemmas.Slice.Eq.{bytes_eq-Decides}
 use Rattle.std.specs.List.{AllByRecursion, list_all}
 use Rattle.std.specs.Str.{bytes_eq}
 use Rattle.std.specs.Option.{option_or}
+use Rattle.std.specs.Prelude.{is_some}
 use Rattle.std.specs.Prelude.{nat_lt}
 use Rattle.eden_model.specs.Names.{name_refusal}
 use Rattle.eden_model.specs.Paths.{path_len, path_refusal}
 use Rattle.eden_model.specs.declared.errno.Errno.{Errno}
 use Rattle.eden_model.specs.declared.request.Request.{Request}
-use Rattle.eden_wire.specs.Names.{is_plain}
+use Rattle.eden_wire.specs.Names.{IsComponent, is_plain, SpellsName, name_text}
 use Rattle.eden_wire.specs.Fields.{Field, field_text, IsField}
 use Rattle.eden_wire.specs.Fields.Field.{of_path, of_number}
 use Rattle.eden_wire.specs.Requests.{spelling}
 use Rattle.eden_wire.specs.Words.{request_word_text}
 use Rattle.eden_wire.specs.Lines.{IsReadAs}
 use Rattle.eden_wire.specs.Sorts.{fields_text, field_refusal, first_refusal}
+use Rattle.eden_wire.specs.Scans.{ScansName}
 use Rattle.eden_wire.specs.Fronts.{NameFirst, FieldFirst, FieldsFirst, Completes}
 use Rattle.eden_wire.specs.declared.request.Item.TheVariants.{Asks}
 use Rattle.eden_wire.specs.declared.word.Word.{Word}
-use Rattle.eden_wire.proofs.NameLemmas.{plain_text, plain_are_bytes, plain_lack}
+use Rattle.eden_wire.proofs.NameLemmas.{name_same, plain_text, plain_are_bytes, plain_lack}
 use Rattle.eden_wire.proofs.PathLemmas.{AreComponents, parts_text, parts-append}
 use Rattle.eden_wire.proofs.FieldLemmas.{fields_first}
 
@@ -63,6 +65,27 @@ name_first text part rest n within some short plain dotless part_is rest_is =
       fits = omega (arith, long, ap length rest_is, length-drop n text);
     }
 
+is_none : (x : Option Errno) → is_some x ≡ false → x ≡ None
+is_none None h = refl
+is_none (Some e) h = absurd (false≢true (sym h))
+
+-- the text of a part that was looked through is that of a name
+pub part_spells : {part : List ℕ} {len : ℕ} {refusal : Option Errno} → ScansName part len refusal → is_some refusal ≡ false → SpellsName part
+part_spells {refusal = refusal} scan none = (scan.name, scan.good, scan.spelled, sym scan.refused ∙ is_none refusal none)
+
+-- the part at the front is a name
+pub escaped_first : {text part rest : List ℕ} (n : ℕ) {len : ℕ} {refusal : Option Errno} (name : List ℕ) → ScansName part len refusal → is_some refusal ≡ false
+    → part ≡ take n text → rest ≡ drop n text → IsComponent name × (part ≡ name_text name) → NameFirst name text rest
+escaped_first {text} {part} {rest} n {refusal = refusal} name scan none part_is rest_is read =
+    let same : scan.name ≡ name = name_same scan.name name scan.good.1 read.0.1 (sym scan.spelled ∙ read.1) in
+    let whole : text ≡ part ++ rest = sym (take-append-drop n text) ∙ ap (λ l. l ++ drop n text) (sym part_is) ∙ ap (λ l. part ++ l) (sym rest_is) in
+    record {
+      good = read.0;
+      whole = whole ∙ ap (λ l. l ++ rest) read.1;
+      named = ap name_refusal (sym same) ∙ sym scan.refused ∙ is_none refusal none;
+      fits = omega (arith, ap length whole, length-append part rest, scan.fits, scan.size, ap length same);
+    }
+
 -- ---- paths
 
 -- these names, none of which is refused, come first, each behind a slash, and then the rest
@@ -80,9 +103,6 @@ named-append (n ∷ names) name all one =
   where
     split : (x y : Option Errno) → option_or x y ≡ None → (x ≡ None) × (y ≡ None)
     split x y none = grind arith
-
-pub names_none : (text rest : List ℕ) (names : List (List ℕ)) → names ≡ [] → rest ≡ text → NamesFirst names text rest
-names_none text rest names none same = rw (none, same) (record { good = tt; whole = refl; named = refl; fits = omega arith })
 
 begins_with : (b : ℕ) (text : List ℕ) → 0 < length text → get_or text 0 0 ≡ b → text ≡ b ∷ drop 1 text
 begins_with b [] some first = absurd (omega arith)

@@ -3,6 +3,7 @@ pub mod Waiting
 pub mod Growing
 pub mod NumberLemmas
 pub mod Escapes
+pub mod PlainBytes
 pub mod HexPieces
 pub mod HexDigits
 pub mod NameLemmas

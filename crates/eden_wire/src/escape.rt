@@ -1,4 +1,5 @@
-ghost use Rattle.std.specs.Prelude.{◌≡◌, ◌≤◌, ◌<◌, ◌++◌, List, [], ◌∷◌, ℕ, length, take, true, MatchOption};
+ghost use Rattle.std.specs.Prelude.{◌≡◌, ◌≤◌, ◌<◌, ◌++◌, ◌&&◌, List, [], ◌∷◌, ℕ, length, take};
+ghost use Rattle.std.specs.Prelude.{true, if◌then◌else◌, IsTrue, MatchOption};
 ghost use Rattle.std.specs.List.{list_all};
 ghost use Rattle.eden_model.specs.Bytes.{percent_sign};
 ghost use Rattle.eden_wire.specs.Names.{is_plain, upper_digit, byte_text};
@@ -16,11 +17,29 @@ static PLAIN: [u8; 256] = [
     0, 0, 0, 0, 0, 0, 0, 0, 0, 0, 0, 0, 0, 0, 0, 0, 0, 0, 0, 0, 0, 0, 0, 0, 0, 0, 0, 0, 0, 0, 0, 0,
 ];
 
+/// 1 if a byte of a name stands for itself, or else 0.
+#[inline(always)]
+fn plain_value(b: u8) -> u8
+    ensures value { result ≡ (if is_plain b then 1 else 0) }
+    ensures small { result ≤ 1 }
+{
+    PLAIN[usize::from(b)]
+}
+
 /// Whether a byte of a name stands for itself.
+#[inline(always)]
 fn is_plain(b: u8) -> bool
     ensures { result ≡ is_plain b }
 {
-    PLAIN[usize::from(b)] == 1
+    plain_value(b) == 1
+}
+
+/// Whether each of four bytes of a name stands for itself, by one test.
+#[inline(always)]
+fn are_plain(a: u8, b: u8, c: u8, d: u8) -> bool
+    ensures { result ≡ (is_plain a && is_plain b && is_plain c && is_plain d) }
+{
+    plain_value(a) + plain_value(b) + plain_value(c) + plain_value(d) == 4
 }
 
 /// How many bytes at the front stand for themselves.
@@ -34,6 +53,29 @@ pub(crate) fn plain_len(text: &[u8]) -> usize
         }
     }
     text.len()
+}
+
+/// Whether all bytes stand for themselves.
+pub(crate) fn are_all_plain(text: &[u8]) -> bool
+    ensures { IsTrue result → list_all is_plain text.now ≡ true }
+{
+    let mut fours = 0;
+    'fours: while text.len() - fours >= 4
+        && are_plain(
+            text[fours],
+            text[fours + 1],
+            text[fours + 2],
+            text[fours + 3],
+        )
+    {
+        fours += 4;
+    }
+    'bytes: for i in fours..text.len() {
+        if !is_plain(text[i]) {
+            return false;
+        }
+    }
+    true
 }
 
 /// The digit's number, if it is one in upper case.

@@ -1,4 +1,4 @@
-ghost use Rattle.std.specs.Prelude.{◌≡◌, ◌≤◌, ◌<◌, ◌^◌, ◌++◌, ◌∷◌, [], length, take, decimal, IsTrue, Some};
+ghost use Rattle.std.specs.Prelude.{◌≡◌, ◌≤◌, ◌++◌, ◌∷◌, [], length, take, decimal, Some};
 ghost use Rattle.std.specs.Option.{IfSome};
 ghost use Rattle.eden_wire.specs.Fields.Field.{of_path, of_number, of_bit, of_data, of_after};
 ghost use Rattle.eden_wire.specs.Requests.{spelling};
@@ -9,6 +9,7 @@ ghost use Rattle.eden_wire.specs.declared.request.Item.TheVariants.{Asks};
 
 use crate::escape::plain_len;
 use crate::field::{is_data, read_bit, read_data};
+use crate::name_text::{read_name, scan_name};
 use crate::word::Word;
 use eden_model::{Bytes, MAX_NAME, MAX_NAMES, MAX_PATH, Name, Path, Request};
 use std::alloc::Global;
@@ -65,14 +66,45 @@ fn behind_space(text: &[u8]) -> Option<&[u8]>
     }
 }
 
-// The name of bytes that stand for themselves at the front, and the text behind it.
+// How many bytes stand before the first slash or space, or in all.
+fn name_end(text: &[u8]) -> usize
+    ensures { result ≤ length text.now }
+{
+    for i in 0..text.len() {
+        if text[i] == b'/' || text[i] == b' ' {
+            return i;
+        }
+    }
+    text.len()
+}
+
+// The name at the front, of which some bytes are escaped, and the text behind it.
+#[inline(never)]
+fn front_escaped(alloc: Global, text: &[u8]) -> Option<(Name, &[u8])>
+    ensures { IfSome result (λ x. NameFirst x.0 text.now x.1.now) }
+{
+    let (part, rest) = text.split_at(name_end(text));
+    let scanned = scan_name(part)?;
+    if scanned.refusal.is_some() {
+        return None;
+    }
+    let Ok(name) = read_name(alloc, part) else {
+        return None;
+    };
+    Some((name, rest))
+}
+
+// The name at the front, most often of bytes that stand for themselves, and the text behind it.
 #[inline(always)]
 fn front_name(alloc: Global, text: &[u8]) -> Option<(Name, &[u8])>
     ensures { IfSome result (λ x. NameFirst x.0 text.now x.1.now) }
 {
     let len = plain_len(text);
-    if len == 0 || len > MAX_NAME {
+    if len > MAX_NAME {
         return None;
+    }
+    if len == 0 {
+        return front_escaped(alloc, text);
     }
     // `.` and `..` are no names; nor is another short text taken for one here that begins so.
     if len < 3 && text[0] == b'.' {
@@ -80,7 +112,7 @@ fn front_name(alloc: Global, text: &[u8]) -> Option<(Name, &[u8])>
     }
     let (part, rest) = text.split_at(len);
     if !rest.is_empty() && rest[0] != b'/' && rest[0] != b' ' {
-        return None;
+        return front_escaped(alloc, text);
     }
     let Ok(name) = Name::from_judged(alloc, part) else {
         return None;
@@ -88,30 +120,20 @@ fn front_name(alloc: Global, text: &[u8]) -> Option<(Name, &[u8])>
     Some((name, rest))
 }
 
-// Puts the name behind the others, if there is memory. Room is made only for the first name that was read, so that a
-// line which isn't plain takes none here.
-#[inline(always)]
-fn add_name(names: &mut Vec<Name>, name: Name) -> bool
-    ensures { IsTrue result → names.new.items ≡ names.old.items ++ name ∷ [] }
-{
-    if names.is_empty() && names.reserve(FEW).is_err() {
-        return false;
-    }
-    names.push(name).is_ok()
-}
-
 // The names at the front, each behind a slash, and the text behind them.
 #[inline(always)]
 fn front_names(alloc: Global, text: &[u8]) -> Option<(Path, &[u8])>
     ensures { IfSome result (λ x. FieldFirst (of_path x.0) (32 ∷ text.now) x.1.now) }
 {
-    let mut names = Vec::new(alloc);
+    let Ok(mut names) = Vec::with_capacity(alloc, FEW) else {
+        return None;
+    };
     let mut rest = text;
     'parts: while !rest.is_empty() && rest[0] == b'/' {
         let (name, more) = front_name(alloc, &rest[1..])?;
-        if !add_name(&mut names, name) {
+        let Ok(()) = names.push(name) else {
             return None;
-        }
+        };
         rest = more;
     }
     if names.is_empty() || names.len() > MAX_NAMES || text.len() - rest.len() > MAX_PATH {
@@ -262,8 +284,8 @@ fn complete(alloc: Global, word: Word, path: Path, text: &[u8]) -> Option<Reques
     }
 }
 
-/// The request that the line is, read in one pass. None says nothing: a line with a name of other bytes, with a refusal
-/// or for which there is no memory is left to `read_request`'s two passes.
+/// The request that the line is, read in one pass. None says nothing: a line with a refusal, one that is no request or
+/// one for which there is no memory is left to `read_request`'s two passes.
 pub(crate) fn read_plain(alloc: Global, line: &[u8]) -> Option<Request>
     ensures { IfSome result (λ q. IsReadAs line.now (Asks q)) }
 {

@@ -10,7 +10,7 @@ ghost use Rattle.eden_wire.specs.Writing.{WritesText, HandsOver};
 ghost use Rattle.eden_wire.specs.Names.{name_text};
 ghost use Rattle.eden_wire.specs.Replies.{kind_word, entry_text, error_text, cause_word, reply_text, answer_text};
 
-use crate::escape::plain_len;
+use crate::escape::are_all_plain;
 use crate::hex_text::encode;
 use crate::output::{Output, WriteFailed};
 use eden_model::{CallFault, Cause, Entries, Errno, Fault, Id, Kind, Name, Reply, StartFault};
@@ -55,7 +55,7 @@ fn put_number<W: Write>(output: &mut Output, writer: &mut W, n: u64)
 fn put_name<W: Write>(output: &mut Output, writer: &mut W, name: &[u8])
     ensures { HandsOver (W.contents writer.old) (W.contents writer.new) output.old output.new (name_text name.now) }
 {
-    if plain_len(name) == name.len() {
+    if are_all_plain(name) {
         output.put(writer, name);
         return;
     }
@@ -101,25 +101,28 @@ fn put_short<W: Write>(output: &mut Output, writer: &mut W, bytes: &[u8])
     output.put(writer, text);
 }
 
-fn kind_line(kind: Kind) -> &'static [u8]
-    ensures { result.now ≡ reply_text (reply.Kind kind) }
+// Each text of a kind is put by its own call, whose length is known: it is then copied without a call.
+fn put_kind<W: Write>(output: &mut Output, writer: &mut W, kind: Kind)
+    ensures { Grows (W.contents writer.old) (W.contents writer.new) output.old output.new
+        (reply_text (reply.Kind kind)) }
 {
     match kind {
-        Kind::File => b"kind file\n",
-        Kind::Exec => b"kind exec\n",
-        Kind::Link => b"kind link\n",
-        Kind::Dir => b"kind dir\n",
+        Kind::File => output.put(writer, b"kind file\n"),
+        Kind::Exec => output.put(writer, b"kind exec\n"),
+        Kind::Link => output.put(writer, b"kind link\n"),
+        Kind::Dir => output.put(writer, b"kind dir\n"),
     }
 }
 
-fn stat_front(kind: Kind) -> &'static [u8]
-    ensures { result.now ≡ codes "stat " ++ kind_word kind ++ codes " " }
+fn put_stat_front<W: Write>(output: &mut Output, writer: &mut W, kind: Kind)
+    ensures { Grows (W.contents writer.old) (W.contents writer.new) output.old output.new
+        (codes "stat " ++ kind_word kind ++ codes " ") }
 {
     match kind {
-        Kind::File => b"stat file ",
-        Kind::Exec => b"stat exec ",
-        Kind::Link => b"stat link ",
-        Kind::Dir => b"stat dir ",
+        Kind::File => output.put(writer, b"stat file "),
+        Kind::Exec => output.put(writer, b"stat exec "),
+        Kind::Link => output.put(writer, b"stat link "),
+        Kind::Dir => output.put(writer, b"stat dir "),
     }
 }
 
@@ -127,7 +130,7 @@ fn put_stat<W: Write>(output: &mut Output, writer: &mut W, kind: Kind, size: u64
     ensures { HandsOver (W.contents writer.old) (W.contents writer.new) output.old output.new
         (reply_text (reply.Stat kind size number)) }
 {
-    output.put(writer, stat_front(kind));
+    put_stat_front(output, writer, kind);
     put_number(output, writer, size);
     output.put(writer, b" ");
     put_number(output, writer, number);
@@ -158,14 +161,16 @@ fn put_data<W: Write>(output: &mut Output, writer: &mut W, bytes: &[u8])
     output.put(writer, b"\n");
 }
 
-fn entry_front(kind: Kind) -> &'static [u8]
-    ensures { result.now ≡ codes " " ++ kind_word kind ++ codes " " }
+#[inline(always)]
+fn put_entry_front<W: Write>(output: &mut Output, writer: &mut W, kind: Kind)
+    ensures { Grows (W.contents writer.old) (W.contents writer.new) output.old output.new
+        (codes " " ++ kind_word kind ++ codes " ") }
 {
     match kind {
-        Kind::File => b" file ",
-        Kind::Exec => b" exec ",
-        Kind::Link => b" link ",
-        Kind::Dir => b" dir ",
+        Kind::File => output.put(writer, b" file "),
+        Kind::Exec => output.put(writer, b" exec "),
+        Kind::Link => output.put(writer, b" link "),
+        Kind::Dir => output.put(writer, b" dir "),
     }
 }
 
@@ -173,7 +178,7 @@ fn put_entry<W: Write>(output: &mut Output, writer: &mut W, entry: &(Name, Kind)
     ensures { HandsOver (W.contents writer.old) (W.contents writer.new) output.old output.new (entry_text entry.now) }
 {
     let (name, kind) = entry;
-    output.put(writer, entry_front(*kind));
+    put_entry_front(output, writer, *kind);
     put_name(output, writer, name.as_slice());
 }
 
@@ -325,7 +330,7 @@ pub(crate) fn put_reply<W: Write>(output: &mut Output, writer: &mut W, reply: &R
 {
     match reply {
         Reply::Ok => output.put(writer, b"ok\n"),
-        Reply::Kind(kind) => output.put(writer, kind_line(*kind)),
+        Reply::Kind(kind) => put_kind(output, writer, *kind),
         Reply::Stat(kind, size, number) => put_stat(output, writer, *kind, *size, *number),
         Reply::Data(bytes) => put_data(output, writer, bytes.as_slice()),
         Reply::Count(count) => put_count(output, writer, *count),

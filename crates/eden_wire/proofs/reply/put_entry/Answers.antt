@@ -4,4 +4,4 @@ use Rattle.eden_wire.proofs.Growing.{grows_then, grows_as}
 use Rattle.eden_wire.proofs.reply.put_entry.Goals as goal
 
 pub returns : goal.returns
-returns g c = grows_then (grows_as c.entry_front.ensures c.put.ensures) (grows_as (ap name_text c.as_slice.ensures.bytes) c.put_name.ensures)
+returns g c = grows_then c.put_entry_front.ensures (grows_as (ap name_text c.as_slice.ensures.bytes) c.put_name.ensures)

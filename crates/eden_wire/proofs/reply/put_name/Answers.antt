@@ -1,8 +1,10 @@
-use Rattle.std.proofs.Common.{◌<◌, ◌++◌, [], sym, ap, ◌∙◌, append_assoc, arith}
+use Rattle.std.proofs.Common.{◌≡◌, true, ◌<◌, ◌++◌, [], sym, ap, ◌∙◌, append_assoc, arith, rules}
 use Rattle.std.proofs.lemmas.List.Elements.{All-from_get_or, recursion_from_All}
+use Rattle.std.specs.List.{list_all}
 use Rattle.percent_encoding.specs.Iter.{encoded_text}
+use Rattle.eden_wire.specs.Names.{is_plain}
 use Rattle.eden_wire.proofs.Escapes.{escape_is}
-use Rattle.eden_wire.proofs.Decoding.{stand}
+use Rattle.eden_wire.proofs.NameLemmas.{plain_text}
 use Rattle.eden_wire.proofs.Growing.{grows_none, grows_then, grows_as}
 use Rattle.eden_wire.proofs.reply.put_name.Goals as goal
 
@@ -22,5 +24,7 @@ pieces-preserved g c =
           (grows_as c.as_bytes.ensures.value c.put-in-pieces.ensures),
     )
 
-pub returns-then-plain_len-name : goal.returns-then-plain_len-name
-returns-then-plain_len-name g c = grows_as (sym (stand c.args.name.now c.plain_len.result c.if-plain_len-name.true c.plain_len.ensures.plain)) c.put.ensures
+pub returns-then-are_all_plain : goal.returns-then-are_all_plain
+returns-then-are_all_plain g c =
+    let plain : list_all is_plain c.args.name.now ≡ true = search rules in
+    grows_as (sym (plain_text c.args.name.now plain)) c.put.ensures
