@@ -1,5 +1,5 @@
 // Deltas (gitformat-pack(5), "Deltified representation"): the sizes of the base and of the target, and instructions.
-ghost use Rattle.std.specs.Prelude.{◌≡◌, ◌≢◌, ◌≤◌, ◌<◌, List, ℕ};
+ghost use Rattle.std.specs.Prelude.{◌≡◌, ◌≢◌, ◌≤◌, ◌<◌, ◌^◌, List, ℕ};
 ghost use Rattle.std.specs.Prelude.{length, None, Some, Err, MatchOption, IfSome, IfOk, IfErr};
 ghost use Rattle.eden_model.specs.declared.fault.Cause.TheVariants as cause;
 ghost use Rattle.eden_object.specs.Frames.{most_body};

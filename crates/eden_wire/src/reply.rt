@@ -103,7 +103,7 @@ fn put_short<W: Write>(output: &mut Output, writer: &mut W, bytes: &[u8])
 
 // Each text of a kind is put by its own call, whose length is known: it is then copied without a call.
 fn put_kind<W: Write>(output: &mut Output, writer: &mut W, kind: Kind)
-    ensures { Grows (W.contents writer.old) (W.contents writer.new) output.old output.new
+    ensures { HandsOver (W.contents writer.old) (W.contents writer.new) output.old output.new
         (reply_text (reply.Kind kind)) }
 {
     match kind {
@@ -115,7 +115,7 @@ fn put_kind<W: Write>(output: &mut Output, writer: &mut W, kind: Kind)
 }
 
 fn put_stat_front<W: Write>(output: &mut Output, writer: &mut W, kind: Kind)
-    ensures { Grows (W.contents writer.old) (W.contents writer.new) output.old output.new
+    ensures { HandsOver (W.contents writer.old) (W.contents writer.new) output.old output.new
         (codes "stat " ++ kind_word kind ++ codes " ") }
 {
     match kind {
@@ -163,7 +163,7 @@ fn put_data<W: Write>(output: &mut Output, writer: &mut W, bytes: &[u8])
 
 #[inline(always)]
 fn put_entry_front<W: Write>(output: &mut Output, writer: &mut W, kind: Kind)
-    ensures { Grows (W.contents writer.old) (W.contents writer.new) output.old output.new
+    ensures { HandsOver (W.contents writer.old) (W.contents writer.new) output.old output.new
         (codes " " ++ kind_word kind ++ codes " ") }
 {
     match kind {
