@@ -1,5 +1,6 @@
 -- What one caller's call promises, and what its source was asked for.
 use Rattle.std.specs.Prelude.{◌≡◌, ◌≤◌, ◌⊎◌, ◌-◌, ◌++◌, ℕ, Bool, List, [], ◌∷◌, length, slice_set, Option, Some, None, Result, Ok, Err, MatchResult}
+use Rattle.std.specs.Borrow.{Bor}
 use Rattle.eden_model.specs.declared.fault.Cause.{Cause}
 use Rattle.eden_model.specs.declared.fault.Fault.TheVariants as fault
 use Rattle.eden_model.specs.declared.fault.StartFault.{StartFault}
@@ -177,3 +178,7 @@ module _ {S : Type 0} (fetched : S → Id → Answer → S → Type 0) {T : Type
   -- .. and is lent
   abbrev pub Lends : Desk T S → Reply → Desk T S → Type 0
   Lends d r d' = (r ≡ d'.reply) × IsServed d d'
+
+  -- .. or the request wasn't taken
+  abbrev pub LendsReply : Desk T S → Result (Bor Reply) StartFault → Desk T S → Type 0
+  LendsReply d answer d' = MatchResult answer (λ r. Lends d r.now d') (λ fault. Declines d fault d')

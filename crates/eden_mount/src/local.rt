@@ -1,11 +1,11 @@
-ghost use Rattle.std.specs.Prelude.{◌≡◌, true, OnOk, IfErr, MatchResult};
+ghost use Rattle.std.specs.Prelude.{◌≡◌, true, OnOk, IfErr};
 ghost use Rattle.std.specs.Borrow.{sem};
 ghost use Rattle.std.specs.Io.BufRead.{Rests};
 ghost use Rattle.eden_model.specs.declared.request.Request.{Request};
 ghost use Rattle.eden_model.specs.Histories.{Legal};
 ghost use Rattle.eden_import.specs.Keys.{has_key};
 ghost use Rattle.eden_mount.specs.Serving.{IsDriven, IsAtRest, WaitsAlone, Hands, FetchesOne, DrivesOn, Finishes};
-ghost use Rattle.eden_mount.specs.Serving.{MayLetGo, Answers, IsServed, Lends, Declines, SyncsDesk};
+ghost use Rattle.eden_mount.specs.Serving.{MayLetGo, Answers, IsServed, LendsReply, Declines, SyncsDesk};
 ghost use Rattle.eden_mount.specs.contracts.local.Local.{the_row};
 
 use crate::attempts::Attempts;
@@ -223,8 +223,7 @@ impl<W: World, S: Source<W> + Drop, T: Attempts<W> + Drop, A: Allocator, H: Hist
         ensures* after { sem 𝓛
             (Rests (the_row W.row S.row T.row A.row H.row T.Place.row W.World S.Source T.Attempts A.Allocator H.History)
             self.entry
-            (λ new. MatchResult result (λ r. Lends S.fetched T.table W.honest H.copies request self.old r.now new)
-            (λ fault. Declines self.old fault new))) }
+            (λ new. LendsReply S.fetched T.table W.honest H.copies request self.old result new)) }
     {
         match self.serve(request) {
             Err(fault) => Err(fault),
