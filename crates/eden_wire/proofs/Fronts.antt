@@ -12,6 +12,7 @@ use Rattle.std.specs.Str.{bytes_eq}
 use Rattle.std.specs.Option.{option_or}
 use Rattle.std.specs.Prelude.{is_some}
 use Rattle.std.specs.Prelude.{nat_lt}
+use Rattle.eden_model.specs.Bytes.{space_byte}
 use Rattle.eden_model.specs.Names.{name_refusal}
 use Rattle.eden_model.specs.Paths.{path_len, path_refusal}
 use Rattle.eden_model.specs.declared.errno.Errno.{Errno}
@@ -123,20 +124,20 @@ pub path_fits : (names : List (List ℕ)) → length names ≤ 256 → path_len 
 path_fits names few short = grind (arith, nat_tests)
 
 pub path_first : (names : List (List ℕ)) (text rest : List ℕ) → NamesFirst names text rest → 0 < length names → length names ≤ 256 → length text - length rest ≤ 4095
-    → FieldFirst (of_path names) (32 ∷ text) rest
+    → FieldFirst (of_path names) (space_byte ∷ text) rest
 path_first [] text rest so some few short = absurd (omega arith)
 path_first (name ∷ names) text rest so some few short = record {
   good = so.good;
-  whole = ap (λ l. 32 ∷ l) so.whole;
+  whole = ap (λ l. space_byte ∷ l) so.whole;
   unrefused = rw so.named (path_fits (name ∷ names) few (omega (arith, so.fits, short)));
 }
 
 -- ---- fields
 
-pub number_first : (text inside rest : List ℕ) (n len : ℕ) → text ≡ 32 ∷ inside → take len inside ≡ decimal n → n < 2 ^ 64 → rest ≡ drop len inside → FieldFirst (of_number n) text rest
+pub number_first : (text inside rest : List ℕ) (n len : ℕ) → text ≡ space_byte ∷ inside → take len inside ≡ decimal n → n < 2 ^ 64 → rest ≡ drop len inside → FieldFirst (of_number n) text rest
 number_first text inside rest n len behind spelled small rest_is = record {
   good = small;
-  whole = behind ∙ ap (λ l. 32 ∷ l) (sym (take-append-drop len inside) ∙ ap (λ l. l ++ drop len inside) spelled ∙ ap (λ l. decimal n ++ l) (sym rest_is));
+  whole = behind ∙ ap (λ l. space_byte ∷ l) (sym (take-append-drop len inside) ∙ ap (λ l. l ++ drop len inside) spelled ∙ ap (λ l. decimal n ++ l) (sym rest_is));
   unrefused = refl;
 }
 
@@ -144,7 +145,7 @@ number_first text inside rest n len behind spelled small rest_is = record {
 
 fields_spelled : (fields : List Field) (text : List ℕ) → FieldsFirst fields text → text ≡ fields_text fields
 fields_spelled [] text h = h
-fields_spelled (f ∷ fields) text h = h.1.whole ∙ ap (λ l. 32 ∷ (field_text f ++ l)) (fields_spelled fields h.0 h.2)
+fields_spelled (f ∷ fields) text h = h.1.whole ∙ ap (λ l. space_byte ∷ (field_text f ++ l)) (fields_spelled fields h.0 h.2)
 
 fields_good : (fields : List Field) (text : List ℕ) → FieldsFirst fields text → AllByRecursion IsField fields
 fields_good [] text h = tt

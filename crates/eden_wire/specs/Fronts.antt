@@ -1,5 +1,6 @@
 -- What stands at the front of a text, and what is left after it.
 use Rattle.std.specs.Prelude.{ℕ, ◌+◌, ◌≡◌, ◌≤◌, List, [], ◌∷◌, ◌++◌, length, Some, None}
+use Rattle.eden_model.specs.Bytes.{space_byte}
 use Rattle.eden_model.specs.Names.{name_refusal}
 use Rattle.eden_model.specs.declared.request.Request.{Request}
 use Rattle.eden_wire.specs.Names.{name_text, IsComponent}
@@ -20,7 +21,7 @@ pub record NameFirst (name text rest : List ℕ) : Type 0 where
 -- a space and a field that isn't refused come first, and then the rest
 pub record FieldFirst (f : Field) (text rest : List ℕ) : Type 0 where
   pub good : IsField f
-  pub whole : text ≡ 32 ∷ (field_text f ++ rest)
+  pub whole : text ≡ space_byte ∷ (field_text f ++ rest)
   pub unrefused : field_refusal f ≡ None
 
 -- these fields, none of which is refused, are the whole text

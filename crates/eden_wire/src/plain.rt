@@ -1,5 +1,6 @@
 ghost use Rattle.std.specs.Prelude.{◌≡◌, ◌≤◌, ◌++◌, ◌∷◌, [], length, take, decimal, Some};
 ghost use Rattle.std.specs.Option.{IfSome};
+ghost use Rattle.eden_model.specs.Bytes.{space_byte};
 ghost use Rattle.eden_wire.specs.Fields.Field.{of_path, of_number, of_bit, of_data, of_after};
 ghost use Rattle.eden_wire.specs.Requests.{spelling};
 ghost use Rattle.eden_wire.specs.Words.{request_word_text};
@@ -14,10 +15,10 @@ use crate::word::Word;
 use eden_model::{Bytes, MAX_NAME, MAX_NAMES, MAX_PATH, Name, Path, Request};
 use std::alloc::Global;
 
-// Most paths have no more names: room for so many is made at once.
+// Most paths have no more names: room for this many is made at once.
 const FEW: usize = 4;
 
-// The text behind the word at its beginning, if it is that word.
+// The text after the word at its beginning, if it is that word.
 #[inline(always)]
 fn behind_word(line: &[u8], word: Word) -> Option<(Word, &[u8])>
     ensures { IfSome result (λ x. line.now ≡ request_word_text x.0 ++ x.1.now) }
@@ -29,7 +30,7 @@ fn behind_word(line: &[u8], word: Word) -> Option<(Word, &[u8])>
     Some((word, line.split_at(text.len()).1))
 }
 
-// The word that the line begins with, and the text behind it. Few bytes tell which word it may be.
+// The word that the line begins with, and the text after it. Few bytes tell which word it may be.
 #[inline(always)]
 fn front_word(line: &[u8]) -> Option<(Word, &[u8])>
     ensures { IfSome result (λ x. line.now ≡ request_word_text x.0 ++ x.1.now) }
@@ -58,7 +59,7 @@ fn front_word(line: &[u8]) -> Option<(Word, &[u8])>
 
 #[inline(always)]
 fn behind_space(text: &[u8]) -> Option<&[u8]>
-    ensures { IfSome result (λ inside. text.now ≡ 32 ∷ inside.now) }
+    ensures { IfSome result (λ inside. text.now ≡ space_byte ∷ inside.now) }
 {
     match text {
         [b' ', inside @ ..] => Some(inside),
@@ -78,7 +79,7 @@ fn name_end(text: &[u8]) -> usize
     text.len()
 }
 
-// The name at the front, of which some bytes are escaped, and the text behind it.
+// The name at the front, of which some bytes are escaped, and the text after it.
 #[inline(never)]
 fn front_escaped(alloc: Global, text: &[u8]) -> Option<(Name, &[u8])>
     ensures { IfSome result (λ x. NameFirst x.0 text.now x.1.now) }
@@ -94,7 +95,7 @@ fn front_escaped(alloc: Global, text: &[u8]) -> Option<(Name, &[u8])>
     Some((name, rest))
 }
 
-// The name at the front, most often of bytes that stand for themselves, and the text behind it.
+// The name at the front, most often of bytes that stand for themselves, and the text after it.
 #[inline(always)]
 fn front_name(alloc: Global, text: &[u8]) -> Option<(Name, &[u8])>
     ensures { IfSome result (λ x. NameFirst x.0 text.now x.1.now) }
@@ -120,10 +121,10 @@ fn front_name(alloc: Global, text: &[u8]) -> Option<(Name, &[u8])>
     Some((name, rest))
 }
 
-// The names at the front, each behind a slash, and the text behind them.
+// The names at the front, each after a slash, and the text after them.
 #[inline(always)]
 fn front_names(alloc: Global, text: &[u8]) -> Option<(Path, &[u8])>
-    ensures { IfSome result (λ x. FieldFirst (of_path x.0) (32 ∷ text.now) x.1.now) }
+    ensures { IfSome result (λ x. FieldFirst (of_path x.0) (space_byte ∷ text.now) x.1.now) }
 {
     let Ok(mut names) = Vec::with_capacity(alloc, FEW) else {
         return None;
@@ -142,7 +143,7 @@ fn front_names(alloc: Global, text: &[u8]) -> Option<(Path, &[u8])>
     Some((Path::from_judged(names), rest))
 }
 
-// The path behind a space at the front, and the text behind it.
+// The path after a space at the front, and the text after it.
 fn front_path(alloc: Global, text: &[u8]) -> Option<(Path, &[u8])>
     ensures { IfSome result (λ x. FieldFirst (of_path x.0) text.now x.1.now) }
 {
@@ -175,7 +176,7 @@ fn leading_number(text: &[u8]) -> Option<(u64, usize)>
     Some((n, len))
 }
 
-// The number behind a space at the front, and the text behind it.
+// The number after a space at the front, and the text after it.
 #[inline(always)]
 fn front_number(text: &[u8]) -> Option<(u64, &[u8])>
     ensures { IfSome result (λ x. FieldFirst (of_number x.0) text.now x.1.now) }
@@ -185,7 +186,7 @@ fn front_number(text: &[u8]) -> Option<(u64, &[u8])>
     Some((n, inside.split_at(len).1))
 }
 
-// The number behind a space, which is the whole text.
+// The number after a space, which is the whole text.
 #[inline(always)]
 fn last_number(text: &[u8]) -> Option<u64>
     ensures { IfSome result (λ n. FieldFirst (of_number n) text.now []) }
@@ -194,7 +195,7 @@ fn last_number(text: &[u8]) -> Option<u64>
     if rest.is_empty() { Some(n) } else { None }
 }
 
-// The name behind a space at the front, or none for `-`, and the text behind it.
+// The name after a space at the front, or none for `-`, and the text after it.
 #[inline(always)]
 fn front_after(alloc: Global, text: &[u8]) -> Option<(Option<Name>, &[u8])>
     ensures { IfSome result (λ x. FieldFirst (of_after x.0) text.now x.1.now) }
@@ -209,14 +210,14 @@ fn front_after(alloc: Global, text: &[u8]) -> Option<(Option<Name>, &[u8])>
     }
 }
 
-// The bit behind a space, which is the whole text.
+// The bit after a space, which is the whole text.
 fn last_bit(text: &[u8]) -> Option<bool>
     ensures { IfSome result (λ b. FieldFirst (of_bit b) text.now []) }
 {
     read_bit(behind_space(text)?)
 }
 
-// The bytes behind a space, which are the whole text.
+// The bytes after a space, which are the whole text.
 fn last_data(alloc: Global, text: &[u8]) -> Option<Bytes>
     ensures { IfSome result (λ bytes. FieldFirst (of_data bytes) text.now []) }
 {
@@ -230,7 +231,7 @@ fn last_data(alloc: Global, text: &[u8]) -> Option<Bytes>
     }
 }
 
-// The path behind a space, which is the whole text.
+// The path after a space, which is the whole text.
 fn last_path(alloc: Global, text: &[u8]) -> Option<Path>
     ensures { IfSome result (λ path. FieldFirst (of_path path) text.now []) }
 {
@@ -238,7 +239,7 @@ fn last_path(alloc: Global, text: &[u8]) -> Option<Path>
     if rest.is_empty() { Some(path) } else { None }
 }
 
-// The request of a word that only a path comes behind.
+// The request of a word after which only a path comes.
 #[inline(always)]
 fn of_path_alone(word: Word, path: Path) -> Option<Request>
     ensures { IfSome result (λ q. spelling q ≡ Some (request_word_text word, of_path path ∷ [])) }
@@ -255,7 +256,7 @@ fn of_path_alone(word: Word, path: Path) -> Option<Request>
     }
 }
 
-// The request of a word, the path behind it, and the fields that the text behind these spells.
+// The request of a word, the path after it, and the fields that the text after these spells.
 #[inline(always)]
 fn complete(alloc: Global, word: Word, path: Path, text: &[u8]) -> Option<Request>
     ensures { IfSome result (Completes word path text.now) }
