@@ -51,7 +51,7 @@ const LOOKS: u32 = 100_000;
 
 const ROUNDS: u32 = 1_000;
 
-/// Makes the requests in turn, so many times, and answers how many were done.
+/// Makes the requests in turn, this many times, and answers how many were done.
 fn repeat<F: Files<Outside>>(
     alloc: Global,
     tree: &mut Tree<F>,
@@ -65,8 +65,8 @@ fn repeat<F: Files<Outside>>(
     done
 }
 
-/// Makes the requests in turn, so many times, and tells how many were done, and how long each took. They were made once
-/// before, so that what they look at is loaded.
+/// Makes the requests in turn, this many times, and tells how many were done, and how long each took. They were made
+/// once before, so that what they look at is loaded.
 fn measure<F: Files<Outside>>(
     bench: Bench,
     tree: &mut Tree<F>,
@@ -81,7 +81,7 @@ fn measure<F: Files<Outside>>(
     bench.time_each(what, start, done)
 }
 
-/// Makes the request so many times, and tells of it.
+/// Makes the request this many times, and tells of it.
 fn measure_one<F: Files<Outside>>(
     bench: Bench,
     tree: &mut Tree<F>,
@@ -135,7 +135,7 @@ fn measure_uses<F: Files<Outside>>(bench: Bench, tree: &mut Tree<F>) -> io::Resu
     Ok(())
 }
 
-/// The request for a page of the commit's directory, from its middle on. None where its path is none.
+/// The request for a page of the commit's directory, from its middle on. None if its path is none.
 fn page(alloc: Global, count: u32) -> Result<Option<Request>, AllocError> {
     match path_to(alloc, Place::Directory, None)? {
         None => Ok(None),
@@ -197,7 +197,7 @@ fn measure_files<F: Files<Outside>>(bench: Bench, tree: &mut Tree<F>) -> io::Res
     measure_uses(bench, tree)
 }
 
-/// Attempts over files, on a commit with a directory of so many files.
+/// Attempts over files, on a commit with a directory of this many files.
 fn run_on<F: Files<Outside>>(bench: Bench, tree: &mut Tree<F>, count: u32) -> io::Result<()> {
     println!(bench.rt; "attempts, a directory of {count} files among them")?;
     measure_chain(bench, tree)?;

@@ -22,7 +22,7 @@ impl Bench<'_> {
         self.rt.alloc()
     }
 
-    /// When a part begins; none where times aren't told, or where there is no clock.
+    /// When a part begins; none if times aren't told, or if there is no clock.
     pub fn start(self) -> Option<Instant> {
         if self.is_timed {
             Instant::now(self.rt).ok()
@@ -39,7 +39,7 @@ impl Bench<'_> {
         }
     }
 
-    /// How many nanoseconds each of so many took since a part began.
+    /// How many nanoseconds each of this many took since a part began.
     pub fn nanoseconds_each(self, start: Option<Instant>, count: u32) -> Option<f64> {
         let seconds = self.seconds(start)?;
         Some(seconds * 1e9 / f64::from(count.max(1)))
@@ -53,7 +53,7 @@ impl Bench<'_> {
         }
     }
 
-    /// Tells how long each of so many took since they began.
+    /// Tells how long each of this many took since they began.
     pub fn time_each(self, part: &str, start: Option<Instant>, count: u32) -> io::Result<()> {
         match self.nanoseconds_each(start, count) {
             None => Ok(()),
@@ -61,7 +61,7 @@ impl Bench<'_> {
         }
     }
 
-    /// Tells what came of a part, and how long each of so many took since it began.
+    /// Tells what came of a part, and how long each of this many took since it began.
     pub fn tell(self, part: Part, came: u64, start: Option<Instant>, count: u32) -> io::Result<()> {
         println!(self.rt; "{}{came}{}", part.before, part.after)?;
         self.time_each(part.time, start, count)

@@ -6,7 +6,7 @@ use std::path::PathBuf;
 
 /// Where files are kept.
 pub trait Keeps<F: Files<Outside>> {
-    /// About how many entries are loaded where each change is stored there: a store in a folder waits for the device.
+    /// About how many entries are loaded if each change is stored there: a store in a folder waits for the device.
     fn entries(&self) -> u32;
 
     /// The files that are kept there.

@@ -57,7 +57,7 @@ module _ {V O : Type 0} (v : Receiver V) (o : Sender O) (Comes : Coming) (Turns 
     pub session : MessageSession (HandAnswers Turns) (p, taken_by o sender) (p', taken_by o sent) (v.waiting receiver) (v.waiting left) said
     pub looked : HasLooked p p'
 
-  -- so with each of these passes, and the first fault is told
+  -- so with each of these passes, and the first fault is reported
   abbrev pub HaveAttended : List Carried → List Carried → Result ⊤ SessionFault → Type 0
   HaveAttended [] [] told = told ≡ Ok tt
   HaveAttended [] (p' ∷ ps') told = ⊥

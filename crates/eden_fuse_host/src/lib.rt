@@ -9,7 +9,7 @@
 //!
 //! Of each thread is told that it had a line with all its messages, that each message that it received had its turn,
 //! after others of this folder, and that what was said in it is what was sent. Which turns of the folder were whose
-//! isn't told; that others go on while a thread waits for an object, and that threads end, is shown by tests.
+//! isn't told; that others continue while a thread waits for an object, and that threads end, is shown by tests.
 #![tactic(auto)]
 
 mod answering;

@@ -17,7 +17,7 @@ use Rattle.eden_stdio_life.specs.declared.life.Ending.{Ending}
 use Rattle.eden_stdio_life.specs.Left.{HoldsTheSame, LeavesFiles}
 use Rattle.eden_stdio_life.specs.Ledgers.{LedgerAnswers, ledger}
 
--- the session's fault is told before that of the close
+-- the session's fault is reported before that of the close
 abbrev pub first_life_fault : Result ⊤ SessionFault → Option FilesFault → Result ⊤ LifeFault
 first_life_fault (Err fault) unclosed = Err (life.Session fault)
 first_life_fault (Ok _) (Some fault) = Err (life.Close fault)

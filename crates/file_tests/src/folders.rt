@@ -63,7 +63,7 @@ pub fn damage(rt: &HostRuntime, folder: &PathBuf, name: &str) -> io::Result<()> 
     fs::write(rt, path.as_path(), bytes.as_slice())
 }
 
-/// Whether something in the folder has the name; None where that isn't known.
+/// Whether something in the folder has the name; None if that isn't known.
 pub fn has(rt: &HostRuntime, folder: &PathBuf, name: &str) -> Option<bool> {
     let path = folder.join(rt.alloc(), name).ok()?;
     fs::exists(rt, path.as_path()).ok()

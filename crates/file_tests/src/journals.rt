@@ -139,10 +139,10 @@ fn left(rt: &impl Abort, system: &HostRuntime, name: &str, journal: &[u8]) -> Pa
     folder
 }
 
-// The least that stands behind the records of a journal that is written, zeros.
+// The least that stands after the records of a journal that is written, zeros.
 const RESERVE: usize = 64 << 10;
 
-// Whether the reserve stands behind records of that many bytes.
+// Whether the reserve stands after records of that many bytes.
 fn has_reserve(journal: &[u8], len: usize) -> bool {
     match journal.split_at_checked(len) {
         Some((_, reserve)) => reserve.len() >= RESERVE && are_zeros(reserve),
@@ -164,7 +164,7 @@ fn journal_of(rt: &HostRuntime, folder: &PathBuf) -> io::Result<Vec<u8>> {
     fs::read(rt, path.as_path())
 }
 
-// The records of the folder's journal, which have that many bytes, with the reserve behind them.
+// The records of the folder's journal, which have that many bytes, with the reserve after them.
 pub fn records_of(rt: &impl Abort, system: &HostRuntime, folder: &PathBuf, len: usize) -> Vec<u8> {
     let mut journal = journal_of(system, folder).expect(rt, "a journal");
     require(
@@ -201,7 +201,7 @@ fn a_cut_journal_is_taken_in_up_to_the_cut(rt: HostRuntime) {
     require(&rt, journal.len() == 372, "all of the journal");
 }
 
-// Zeros behind the records, be it as many as a record's fields have, end them.
+// Zeros after the records, be it as many as a record's fields have, end them.
 #[test]
 fn a_journal_with_a_reserve_is_taken_in(rt: HostRuntime) {
     let mut journal = changes_left(&rt, &rt);
@@ -226,7 +226,7 @@ const DONE_AND_NINE: &[Step] = &[
     Step::Gives(Call::Read(9), Answer::Bytes(Some(b"9"))),
 ];
 
-// As after a kill, by a run that goes on in it: the record stands behind the others, and its reserve behind it.
+// As after a kill, by a run that continues in it: the record stands after the others, and its reserve after it.
 #[test]
 fn a_journal_with_a_reserve_goes_on(rt: HostRuntime) {
     let mut journal = changes_left(&rt, &rt);
@@ -248,7 +248,7 @@ fn a_damaged_journal_is_taken_in_up_to_the_damage(rt: HostRuntime) {
     }
 }
 
-// An opening of files of which so many calls are done.
+// An opening of files of which this many calls are done.
 fn stopped(
     rt: &impl Abort,
     system: &HostRuntime,
@@ -308,7 +308,7 @@ const PASSED_OVER: &[Step] = &[
     NO_JOURNAL,
 ];
 
-// As where a program that knows of no journals closed what a later one left.
+// As when a program that knows of no journals closed what a later one left.
 #[test]
 fn a_journal_beside_a_state_is_passed_over(rt: HostRuntime) {
     let folder = left(&rt, &rt, "journal-closed", &changes_left(&rt, &rt));
@@ -385,7 +385,7 @@ fn the_state_and_long_files_are_stored_at_once(rt: HostRuntime) {
     remove(&rt, folder).expect(&rt, "a folder");
 }
 
-// A system of which that call fails as where the disk is full.
+// A system of which that call fails as when the disk is full.
 fn failing(rt: &HostRuntime, call: SystemCall) -> FaultySystem<'static, HostRuntime> {
     FaultySystem {
         files: *rt,
@@ -419,7 +419,7 @@ fn failing_files(
     FolderFiles::new(failing(system, call), folder.clone().expect(rt, "memory"))
 }
 
-// The steps are so over the folder's files and journal, where the one call of the files' system fails, and the other of
+// The steps are so over the folder's files and journal, if the one call of the files' system fails, and the other of
 // the journal's.
 fn follow_failing(
     rt: &impl Abort,
@@ -513,7 +513,7 @@ const STORED: &[Step] = &[
     Step::Gives(Call::Read(8), Answer::Bytes(Some(b"8"))),
 ];
 
-// The steps are so where the fourth call of the files fails.
+// The steps are so if the fourth call of the files fails.
 fn follow_losing(
     rt: &impl Abort,
     system: &HostRuntime,
@@ -527,9 +527,9 @@ fn follow_losing(
     follow_with(rt, system, folder, Journaled::new(files, journal), steps)
 }
 
-// A close whose wait for all files fails, as it does for good once the disk lost something: where the disk takes the
-// names of what is stored, that is enough, and else it is told, and the journal stays. The calls of the files: a wait
-// for the disk, two stores, and the wait that fails.
+// A close whose wait for all files fails, as it does for good once the disk lost something: if the disk takes the names
+// of what is stored, that is enough, and else it is told, and the journal stays. The calls of the files: a wait for the
+// disk, two stores, and the wait that fails.
 #[test]
 fn a_close_waits_for_what_it_stores(rt: HostRuntime) {
     for (of_journal, steps) in CLOSES {
@@ -736,7 +736,7 @@ const GOES_PAST: &[Step] = &[
     NO_JOURNAL,
 ];
 
-// Where the journal can't be written, what it had goes into the files, and the change too.
+// If the journal can't be written, what it had goes into the files, and the change too.
 #[test]
 fn a_change_goes_past_a_failing_journal(rt: HostRuntime) {
     for call in &[SystemCall::Open, SystemCall::Write] {

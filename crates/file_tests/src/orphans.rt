@@ -134,7 +134,7 @@ fn a_name_that_dangles_is_told(rt: HostRuntime) {
     assert!(rt; leaves(rt.alloc(), files, answers, &[0, 1, 7, 9, 10]));
 }
 
-// What is left where that call of the files fails, counted from 1: the root's head, two reads, the list, three heads,
+// What is left if that call of the files fails, counted from 1: the root's head, two reads, the list, three heads,
 // three removals.
 const FAILING: &[(u64, &[u64])] = &[
     (1, &[0, 1, 2, 7, 9, 10]),
@@ -214,7 +214,7 @@ fn what_was_being_stored_is_removed(rt: HostRuntime) {
     remove(&rt, folder).expect(&rt, "a folder");
 }
 
-// Whether the device is told to have failed, once and counted, where those calls of the system fail.
+// Whether the device is told to have failed, once and counted, if those calls of the system fail.
 fn is_told(rt: &HostRuntime, folder: PathBuf, call: Call) -> bool {
     let system = FaultySystem {
         files: rt,

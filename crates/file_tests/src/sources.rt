@@ -128,7 +128,7 @@ const ANSWERS: &[(u8, Result<&[u8], Cause>, u64)] = &[
     (0x8a, Err(Cause::Missing), 3),
 ];
 
-// Whether a source has all those answers, and counts so many failures after each.
+// Whether a source has all those answers, and counts this many failures after each.
 fn gives_all<S: Source<Outside>>(source: &mut S, alloc: Global) -> bool {
     for (first, want, failures) in ANSWERS {
         let is_answered = gives(source, alloc, id_starting(*first), *want);
@@ -188,7 +188,7 @@ fn length_in(rt: &impl Abort, system: &HostRuntime, folder: &PathBuf, first: u8)
     length
 }
 
-// The folder's source, where that call of the system fails so.
+// The folder's source, if that call of the system fails so.
 fn failing(
     rt: &impl Abort,
     system: &HostRuntime,
@@ -234,7 +234,7 @@ const KINDS: &[(ErrorKind, Cause, u64)] = &[
     (ErrorKind::OutOfMemory, Cause::Memory, 0),
 ];
 
-// Whether each of two questions has that answer, and so many failures are counted then.
+// Whether each of two questions has that answer, and this many failures are counted then.
 fn fails<S: Source<Outside> + Drop>(source: S, alloc: Global, want: Cause, failures: u64) -> bool {
     let mut source = source;
     gives(&mut source, alloc, VERSION_1.id, Err(want))

@@ -11,24 +11,24 @@ use std::process::Abort;
 #[derive(Clone, Copy)]
 pub enum Step<'a> {
     Gives(Call<'a>, Answer<'a>),
-    /// So many calls have failed.
+    /// This many calls have failed.
     HasFailed(u64),
     /// Whether the folder has that name.
     Has(&'a str, bool),
-    /// The file of that number becomes so many bytes 7.
+    /// The file of that number becomes this many bytes 7.
     Fills(u64, usize),
-    /// It becomes those bytes, and behind them so many bytes 7.
+    /// It becomes those bytes, and after them this many bytes 7.
     FillsBehind(u64, &'a [u8], usize),
-    /// It has so many bytes 7.
+    /// It has this many bytes 7.
     IsFilled(u64, usize),
 }
 
-/// So many bytes 7, of which no proof has to know.
+/// This many bytes 7, of which no proof has to know.
 pub fn of_length(alloc: Global, count: usize) -> Result<Vec<u8>, AllocError> {
     [7; 1].repeat(alloc, count)
 }
 
-/// Whether the file becomes so many bytes 7.
+/// Whether the file becomes this many bytes 7.
 pub fn fills<F: Files<Outside>>(files: &mut F, alloc: Global, number: u64, count: usize) -> bool {
     match of_length(alloc, count) {
         Ok(bytes) => files.replace(alloc, number, &bytes) == Ok(()),
@@ -49,7 +49,7 @@ fn fills_behind<F: Files<Outside>>(
     }
 }
 
-/// Whether the file has so many bytes 7.
+/// Whether the file has this many bytes 7.
 pub fn is_filled<F: Files<Outside>>(
     files: &mut F,
     alloc: Global,

@@ -150,7 +150,7 @@ pub(crate) fn remove_folder(rt: &(impl AllocGlobal + Abort + Files), folder: &Pa
     fs::remove_dir_all(rt, folder.as_path()).expect(rt, "a folder");
 }
 
-/// Whether the source doesn't give that object for that cause, and tells so many failures then.
+/// Whether the source doesn't give that object for that cause, and tells this many failures then.
 pub(crate) fn lacks<S: Source<Outside>>(
     source: &mut S,
     alloc: Global,

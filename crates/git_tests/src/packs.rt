@@ -284,7 +284,7 @@ fn changed_packs_are_answered(rt: HostRuntime) {
     remove_folder(&rt, &folder);
 }
 
-/// A delta of the one behind it, as is that one, and the last of an object that stands whole.
+/// A delta of the one after it, as is that one, and the last of an object that stands whole.
 const TIP: &str = "f2280dbd787c9c0382c90dfeb086b1dc41a34cce";
 
 const CHAIN: &[&str] = &[

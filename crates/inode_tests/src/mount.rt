@@ -158,7 +158,7 @@ fn table_over<A: Allocator + Clone>(
     Inodes::new(dirs.clone().expect(rt, "a heap"), overlay, root, next)
 }
 
-/// The files under a new mount: none where its root is of an object, and else those of an own root without entries.
+/// The files under a new mount: none if its root is of an object, and else those of an own root without entries.
 fn files_under(rt: &impl Abort, alloc: Global, root: Origin) -> MemoryFiles<Outside> {
     match root {
         Origin::Object(_) => MemoryFiles::new(alloc),

@@ -50,7 +50,7 @@ abbrev pub close_name : FilesFault → List ℕ
 close_name files.Device = codes "Device"
 close_name files.Memory = codes "Memory"
 
--- .. of why the folder, or the address, isn't held
+-- .. of why the directory, or the address, isn't held
 abbrev pub hold_name : HoldFault → List ℕ
 hold_name hold.Locked = codes "Locked"
 hold_name hold.Device = codes "Device"

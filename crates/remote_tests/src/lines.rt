@@ -83,7 +83,7 @@ fn lines_are_answered_in_order(rt: HostRuntime) {
     );
 }
 
-// What is answered where an object has these framed bytes.
+// What is answered if an object has these framed bytes.
 fn answer_of(rt: &(impl AllocGlobal + Abort), framed: &[u8]) -> Vec<u8> {
     let head = format!(in rt.alloc(); "object {}\n", framed.len()).expect(rt, "memory");
     [head.as_bytes(), framed]

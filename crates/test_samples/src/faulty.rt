@@ -41,7 +41,7 @@ pub struct FaultySystem<'a, R> {
     pub call: Call,
     /// Their error.
     pub kind: ErrorKind,
-    /// What is opened in the place of any file: as where it took that place after somebody looked.
+    /// What is opened in the place of any file: as when it took that place after somebody looked.
     pub instead: Option<&'a str>,
 }
 

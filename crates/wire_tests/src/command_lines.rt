@@ -253,7 +253,7 @@ fn takes_a_line_without_a_history(rt: HostRuntime) {
     check_asked(&rt, rt.alloc(), UNKEPT, UNKEPT_WANTED);
 }
 
-/// A server's port, and so many fetchers, passes and entries of the history.
+/// A server's port, and this many fetchers, passes and entries of the history.
 type Numbers = (u16, u32, u32, u32);
 
 fn has_numbers(given: &ServeOptions, want: Numbers) -> bool {
@@ -662,7 +662,7 @@ const NO_PLACES: &[Refused] = &[
     ),
 ];
 
-/// Whether words behind a line are refused by a text that begins so.
+/// Whether words after a line are refused by a text that begins so.
 fn is_refused_behind(
     rt: &impl Abort,
     alloc: Global,
@@ -675,7 +675,7 @@ fn is_refused_behind(
     is_refused(rt, alloc, line.as_slice(), front)
 }
 
-/// Tries each of the rows behind a line.
+/// Tries each of the rows after a line.
 fn check_behind(rt: &impl Abort, alloc: Global, line: &[&'static str], rows: &[Refused]) {
     for (at, (words, front)) in rows.iter().enumerate() {
         assert!(rt; is_refused_behind(rt, alloc, line, words, front), "at {at}");
