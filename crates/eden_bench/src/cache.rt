@@ -16,7 +16,7 @@ const MANY: u32 = 65_536;
 /// The object that is put, under one key after another.
 const FRAMED: &[u8] = b"blob 10\0version 1\n";
 
-/// How long a call takes, in nanoseconds; none if times aren't told.
+/// How long a call takes, in nanoseconds; none if times aren't printed.
 #[derive(Clone, Copy)]
 struct Times {
     put: Option<f64>,
@@ -159,7 +159,7 @@ fn measure(bench: Bench, count: u32, entries: u32) -> io::Result<Times>
     Ok(times)
 }
 
-/// Tells how long a call takes at each size, and the ratio between the two, if times are told.
+/// Prints how long a call takes at each size, and the ratio between the two, if times are printed.
 fn tell(bench: Bench, call: &str, few: Option<f64>, many: Option<f64>) -> io::Result<()> {
     match (few, many) {
         (Some(few), Some(many)) => {
@@ -172,7 +172,7 @@ fn tell(bench: Bench, call: &str, few: Option<f64>, many: Option<f64>) -> io::Re
     }
 }
 
-/// This many puts into a full cache of each size and this many gets from it. Timed, it tells how long a call takes at
+/// This many puts into a full cache of each size and this many gets from it. Timed, it prints how long a call takes at
 /// each size, and the ratio between the two.
 pub fn run(bench: Bench, count: u32) -> io::Result<()> {
     let few = measure(bench, count, FEW)?;

@@ -28,7 +28,7 @@ const LOOKS: u32 = 1_000_000;
 /// How many directories are loaded one inside the other.
 const DEPTH: u32 = 64;
 
-/// How many names the paths have that are looked along, and what is told of it.
+/// How many names the paths have that are looked along, and what is printed of it.
 const PATHS: &[(usize, &str)] = &[
     (1, " looks at depth 1 found their entry"),
     (8, " looks at depth 8 found their entry"),

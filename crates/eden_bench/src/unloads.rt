@@ -74,7 +74,7 @@ fn load_all<F: Files<Outside>>(
     loaded
 }
 
-/// Loads all and unloads it, and tells both.
+/// Loads all and unloads it, and prints both.
 fn measure<F: Files<Outside>>(
     bench: Bench,
     table: &mut Table<F>,

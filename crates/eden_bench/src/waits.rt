@@ -41,7 +41,7 @@ enum Way {
     FromTheRoot,
 }
 
-/// The ways, and what is told of each.
+/// The ways, and what is printed of each.
 const WAYS: &[(Way, &str)] = &[
     (Way::AtItsPlace, "each turn at its place"),
     (Way::FromTheRoot, "each turn from the root"),

@@ -154,7 +154,7 @@ IsTwice root F k = (c : ℕ) × (d : ℕ) × (e : StoredEntry) × (f : StoredEnt
     × (e.number ≡ k) × (f.number ≡ k) × (¬ ((c ≡ d) × (e ≡ f)))
 
 -- The file of an entry that files list is refused, as its own of its kind or as its numbers; or no number is left above that of a
--- file, which is told as a bad body of the root's.
+-- file, which is reported as a bad body of the root's.
 abbrev pub IsDamaged : Id → Stored → ℕ → Refusal → Type 0
 IsDamaged root F k refusal =
     ((e : StoredEntry) × IsListed root F e × (e.number ≡ k) × (e.origin ≡ origin.Own) × ExplainsKind F k e.kind (get.Damaged refusal))

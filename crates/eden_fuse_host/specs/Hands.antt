@@ -67,7 +67,7 @@ module _ {V O : Type 0} (v : Receiver V) (o : Sender O) (Comes : Coming) (Turns 
 
 module _ {V O : Type 0} (v : Receiver V) (o : Sender O) (Comes : Coming) (honest : Type 0) (opening : Tree) (numbers : Numbers) where
   -- a folder was shown with the last of these passes, and a thread attended to it with each of the others; what wasn't stored at
-  -- the end is told
+  -- the end is reported
   pub record IsServed (m : Manner) (ps ps' : List Carried) (said : Result ⊤ SessionFault) (unstored : Option ℕ) : Type 0 where
     pub pass : Carried
     pub hands : List Carried

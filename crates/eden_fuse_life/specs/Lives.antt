@@ -44,7 +44,7 @@ module _ {W F : Type 0} (w : Ghosts W) (f : Files F W) where
     pub source_left : left.backing.source ≡ source
     pub told : left.outcome ≡ first_folder_fault said left.unstored left.unclosed
 
-  -- the history copies replies or doesn't, and may become so long
+  -- the history copies replies or doesn't, and may become this long
   module _ {S : Type 0} (fetched : S → Id → Answer → S → Type 0) (copies : Bool) (limit : ℕ) where
     -- The overlay wasn't opened, for that fault: nothing was received or sent, and the source wasn't asked.
     pub record IsUnshown (base : Base) (backing : Backing F S) (line line' : Line) (waiting unread : Known) (why : OpenFault)

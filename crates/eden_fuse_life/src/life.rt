@@ -85,7 +85,7 @@ fn end<W: World, S: Drop, A: Allocator + Clone, F: Files<W>>(
 /// The session ends when no more messages come, as after an unmount. Then all that waits is stored. The overlay is
 /// closed after a session's fault too, and if not all was stored; only if the close fails are the files left without
 /// their state. What the mount replied are the replies of the commit's whole tree, changed by one request after
-/// another, with the inode numbers that a `stat` may tell; files that were closed show the tree after them, and back
+/// another, with the inode numbers that a `stat` may return; files that were closed show the tree after them, and back
 /// those numbers.
 ///
 /// Errors are reported in `outcome`, the first in the order opening, session, last stores, close. That something wasn't

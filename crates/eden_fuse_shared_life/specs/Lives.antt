@@ -56,7 +56,7 @@ module _ {W F : Type 0} (w : Ghosts W) (f : Files F W) where
     pub opened : IsOpened w f base settings files begun
     pub closed : Closes w f base.root begun w.opening w.numbers left.unclosed left.files
 
-  -- lines give such messages, and the history may become so long
+  -- lines give such messages, and the history may become this long
   module _ {V O : Type 0} (v : Receiver V) (o : Sender O) (Comes : Coming) (limit : ℕ) where
     -- The overlay was opened, the folder served, all that waited stored, or the first error reported, and the overlay closed, however
     -- the session ended. The files are the same commit's, and no inode number was given again. If the outside is honest, what they

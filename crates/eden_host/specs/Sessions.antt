@@ -56,6 +56,6 @@ module _ {I O : Type 0} (i : Read I) (o : Write O) (honest : Type 0) (opening : 
       × AreAttended ps ps' later × (outcome ≡ gathered said later))
       ⊎ ((p' ≡ p) × (ps' ≡ ps) × (outcome ≡ Some (Err host.Listen)))
 
-  -- .. and that is told of all
+  -- .. and that is reported of all
   abbrev pub AreHosted : List Carried → List Carried → Result ⊤ HostFault → Type 0
   AreHosted ps ps' outcome = (sessions : Option (Result ⊤ HostFault)) × AreAttended ps ps' sessions × (outcome ≡ outcome_of sessions)

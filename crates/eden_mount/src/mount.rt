@@ -32,8 +32,8 @@ use std::marker::{Model, PhantomData};
 ///
 /// A pass is a caller's seat, numbered from 1, with at most one pending request. Each call that may change the mount is
 /// one atomic step. If the outside is honest, the history is at every moment one that the whole tree has, changed by
-/// one caller at a time, with the inode numbers that its replies told, and the table shows the tree after it. That is
-/// so whether the history keeps its entries or only counts them.
+/// one caller at a time, with the inode numbers that its replies returned, and the table shows the tree after it. That
+/// is so whether the history keeps its entries or only counts them.
 #[derive(Drop)]
 pub struct Mount<W: World, T: Attempts<W> + Drop, A: Allocator, H: History> {
     alloc: Global,

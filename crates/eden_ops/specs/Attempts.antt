@@ -56,7 +56,7 @@ pub record Wants (o : Option Row) (c : Cache) (k : Key) : Type 0 where
   pub kind : k.kind ≡ object_kind row.kind
   pub lacks : object_at c k ≡ None
 
--- a length that is to be told isn't kept
+-- a length that is to be returned isn't kept
 abbrev pub IsUnsized : Request → Cache → Key → Type 0
 IsUnsized q c k = (p : Path) → q ≡ ask.Stat p → k.kind ≡ objects.Blob → size_at c k.id ≡ None
 

@@ -53,7 +53,7 @@ module _ {W F : Type 0} (w : Ghosts W) (f : Files F W) where
     pub opened : IsOpened w f base settings files begun
     pub closed : Closes w f base.root begun w.opening w.numbers left.unclosed left.files
 
-  -- the history may become so long
+  -- the history may become this long
   module _ {I O : Type 0} (i : Read I) (o : Write O) (limit : ℕ) where
     -- The overlay was opened, its guests hosted, and the overlay closed, however the sessions ended. The files are the same
     -- commit's, and no inode number was given again. If the outside is honest, what they show is the tree after what the

@@ -28,7 +28,7 @@ first_told (Err (host.Session fault)) unclosed = Err (life.Session fault)
 first_told (Ok _) (Some fault) = Err (life.Close fault)
 first_told (Ok _) None = Ok tt
 
--- the mount has this many passes, and its history may become so long
+-- the mount has this many passes, and its history may become this long
 module _ {W F I O : Type 0} (w : Ghosts W) (f : Files F W) (i : Read I) (o : Write O) (passes limit : ℕ) where
   -- the overlay wasn't opened, and stays as it was
   pub record IsUnopened (files : F) (left : SharedEnding F) : Type 0 where

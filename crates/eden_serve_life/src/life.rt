@@ -140,7 +140,7 @@ fn live_tied<
 ///
 /// The clients come in the order in which the listener takes them, each with its own thread and its own session, which
 /// ends where its input does or at a line that is no request. What they were told is one history: the replies of the
-/// commit's whole tree, changed by one request after another, with the inode numbers that a `stat` may tell. The
+/// commit's whole tree, changed by one request after another, with the inode numbers that a `stat` may return. The
 /// overlay is closed once the last session has ended, and after a fault too, with the same commit and the next inode
 /// number that was reached, and backs the numbers that were told; only if the close fails are the files left without
 /// their state.

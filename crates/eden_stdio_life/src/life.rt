@@ -79,9 +79,9 @@ fn end<W: World, S: Drop, A: Allocator + Clone, F: Files<W>>(
 ///
 /// The session ends where the input does, or at a line that is no request. The overlay is closed after a session's
 /// fault too; only if the close fails are the files left without their state. What was told are the replies of the
-/// commit's whole tree, changed by one request after another, with the inode numbers that a `stat` may tell; files that
-/// were closed show the tree after them, and back those numbers. A request that isn't taken is told that the history is
-/// full at its limit, or that there is no memory.
+/// commit's whole tree, changed by one request after another, with the inode numbers that a `stat` may return; files
+/// that were closed show the tree after them, and back those numbers. A request that isn't taken is told that the
+/// history is full at its limit, or that there is no memory.
 ///
 /// Errors are reported in `outcome`, the first in the order opening, session, close. If the overlay isn't opened,
 /// nothing is read or written, and `inside` says why it wasn't, as it says of each fault that was told what it came of.

@@ -10,7 +10,7 @@ use Rattle.eden_overlay.specs.declared.files.FilesFault.TheVariants as files
 use Rattle.mountd.specs.declared.hold.HoldFault.{HoldFault}
 use Rattle.mountd.specs.declared.hold.HoldFault.TheVariants as hold
 
--- an error of the device is told as want of memory or as the device's
+-- an error of the device is reported as want of memory or as the device's
 abbrev pub IsDeviceFault : Error → HoldFault → Type 0
 IsDeviceFault e f = (error_kind e ≡ OutOfMemory → f ≡ hold.Memory) × (error_kind e ≢ OutOfMemory → f ≡ hold.Device)
 

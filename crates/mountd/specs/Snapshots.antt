@@ -53,7 +53,7 @@ mode_word mode.Link = codes "link"
 mode_word mode.Dir = codes "dir"
 mode_word mode.Gitlink = codes "submodule"
 
--- what is put after the path of a change that is told by its top alone
+-- what is put after the path of a change that is reported by its top alone
 abbrev pub whole_word : Bool → List ℕ
 whole_word true = codes " whole"
 whole_word false = []

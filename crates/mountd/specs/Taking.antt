@@ -74,7 +74,7 @@ module _ {W F : Type 0} (w : Ghosts W) (f : Files F W) where
     pub wrote : h.writes_out filled written done
     pub told : status ≡ taken_status outcome written
 
-  -- A snapshot was taken, and the status says how that ended, and whether its id could be told.
+  -- A snapshot was taken, and the status says how that ended, and whether its id could be written.
   pub record IsSnapshotRun {K : Type 0} (k : Sink K W) (root : Id) (files : F) (sink : K) (status : ℕ) : Type 0 where
     pub left : F
     pub filled : K

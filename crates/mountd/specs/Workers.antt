@@ -43,7 +43,7 @@ module _ {I O : Type 0} (i : Read I) (o : Write O) where
   abbrev pub IsAnswered : Ended → Type 0
   IsAnswered ended = IsAnsweredFrom FetchedFromFolder i o ended ⊎ IsAnsweredFrom FetchedFromGit i o ended
 
-  -- this many connections were answered, and this is told of them: the first fault, in the order in which they were
+  -- this many connections were answered, and this is reported of them: the first fault, in the order in which they were
   -- taken
   pub record HaveEnded (count : ℕ) (told : Ended) : Type 0 where
     pub ends : List Ended
@@ -62,6 +62,6 @@ module _ {I O : Type 0} (i : Read I) (o : Write O) where
     pub have_ended : HaveEnded count ended
     pub is : told ≡ first_server_fault taken ended
 
-  -- .. or the repository couldn't be opened, which is told then
+  -- .. or the repository couldn't be opened, which is reported then
   abbrev pub ServesObjects : ℕ → Result ⊤ ServerFault → Type 0
   ServesObjects sessions told = ((fault : GitFault) × (told ≡ Err (server.Open fault))) ⊎ IsServed sessions told

@@ -1,4 +1,4 @@
-//! Changes that are told as lines.
+//! Changes that are reported as lines.
 ghost use Rattle.std.specs.Prelude.{◌≡◌};
 ghost use Rattle.mountd.specs.Snapshots.{how_letter, mode_word, whole_word};
 
@@ -107,7 +107,7 @@ fn mode_word(mode: Mode) -> &'static str
     }
 }
 
-// What is put after the path of a change that is told by its top alone.
+// What is put after the path of a change that is reported by its top alone.
 fn whole_word(whole: bool) -> &'static str
     ensures { result.now ≡ whole_word whole }
 {

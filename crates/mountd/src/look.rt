@@ -1,4 +1,4 @@
-//! How a folder looks: whose it is, what is told of its disk, and when what it shows was changed.
+//! How a folder looks: whose it is, what is reported of its disk, and when what it shows was changed.
 use eden_fuse_format::{StatFsOut, Time};
 use eden_fuse_life::Look;
 use eden_fuse_meaning::Owner;
@@ -15,7 +15,7 @@ use std::time::{SystemTime, UNIX_EPOCH};
 /// For how many seconds the kernel may keep what it was told, since nobody else changes it.
 const KEEP: u64 = 60;
 
-/// What is told of the disk: 4 TiB, half of them free. What changes need of room is the overlay's.
+/// What is reported of the disk: 4 TiB, half of them free. What changes need of room is the overlay's.
 const SPACE: StatFsOut = StatFsOut {
     blocks: 1 << 30,
     bfree: 1 << 29,

@@ -27,7 +27,7 @@ pub fn repair(rt: &HostRuntime, options: RepairOptions) -> ExitCode {
     }
 }
 
-/// Repairs them, waits until the disk has them, and tells what was found.
+/// Repairs them, waits until the disk has them, and reports what was found.
 fn repair_files(rt: &HostRuntime, files: FolderFiles<HostRuntime>, root: Id) -> ExitCode {
     let alloc = rt.alloc();
     let repaired = eden_repair::repair::<Outside, _>(alloc, files, root);

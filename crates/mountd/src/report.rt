@@ -111,7 +111,7 @@ pub fn shared_ending<R: Eprint>(rt: &R, outcome: Result<(), SharedLifeFault>) ->
 }
 
 /// Reports how a folder's life ended, if it didn't end well: by which fault, without the fault's values. That what was
-/// written last wasn't all stored is told beside the session's fault too.
+/// written last wasn't all stored is reported beside the session's fault too.
 ///
 /// Status 0; 3, if the overlay wasn't opened; 4, if the session, the last stores or the close ended in a fault.
 pub fn folder_ending<R: Eprint>(

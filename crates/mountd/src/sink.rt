@@ -43,7 +43,7 @@ impl<R: Files + Eprint> Sink<Outside> for FolderSink<R> {
         answer
     }
 
-    /// If standard error can't be written, nothing is told.
+    /// If standard error can't be written, nothing is printed.
     fn leave_out(&mut self, alloc: Global, path: &[Name], why: LeftOut) -> Result<(), FilesFault> {
         let path = path_text(alloc, path)?;
         let _ = match why {

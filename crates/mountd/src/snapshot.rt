@@ -31,7 +31,7 @@ struct Work<F, K> {
     sink: K,
 }
 
-/// Why a snapshot wasn't taken, or not all changes were told.
+/// Why a snapshot wasn't taken, or not all changes were reported.
 #[derive(Clone, Copy)]
 pub enum TakeFault {
     /// The overlay isn't one that was closed on that tree.
@@ -181,7 +181,7 @@ pub fn closed_name(fault: ClosedFault) -> &'static str
     }
 }
 
-/// The name of why there is no snapshot, or why not all changes were told.
+/// The name of why there is no snapshot, or why not all changes were reported.
 pub fn snapshot_name(fault: SnapshotFault) -> &'static str
     ensures { result.now ≡ snapshot_name fault }
 {

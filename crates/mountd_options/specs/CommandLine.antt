@@ -297,7 +297,7 @@ pub record IsSnapshot (value : Text → Option Text) (options : SnapshotOptions)
   pub closed : IsOverlay value options.closed
   pub into : value (codes "into") ≡ Some (string_bytes options.into)
 
--- .. of which changes are to be told, and whether a mount runs over it
+-- .. of which changes are to be reported, and whether a mount runs over it
 pub record IsChanges (value : Text → Option Text) (options : ChangesOptions) : Type 0 where
   pub overlay : IsOverlay value options.overlay
   pub running : IsTrue options.is_running ↔ IsGiven value (codes "running")

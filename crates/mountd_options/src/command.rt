@@ -99,7 +99,7 @@ pub enum MountCommand {
     Snapshot,
     /// The kernel, over its FUSE protocol.
     Fuse,
-    /// It tells what an overlay changed.
+    /// It prints what an overlay changed.
     Changes,
     /// It lets a closed overlay stand on another tree.
     Dematerialise,
