@@ -64,7 +64,7 @@ fn run(bench: Bench, name: &str, count: u32) -> Option<io::Result<()>> {
     }
 }
 
-/// Runs a workload over files in a folder. None if the name is of no such workload.
+/// Runs a workload over files in a directory. None if the name is of no such workload.
 fn run_on(bench: Bench, name: &str, count: u32, folder: &str) -> Option<io::Result<()>> {
     let folder = PathBuf::from(String::from_str(bench.alloc(), folder).ok()?);
     let keeps = InFolder {

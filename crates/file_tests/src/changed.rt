@@ -185,7 +185,7 @@ fn changes_often<F: Files<Outside>>(files: &mut F, alloc: Global, body: &mut [u8
     true
 }
 
-// File 9 has these bytes, and has them once the folder is opened again.
+// File 9 has these bytes, and has them once the directory is opened again.
 fn find_nine<F: Files<Outside>>(
     rt: &impl Abort,
     system: &HostRuntime,
@@ -205,7 +205,7 @@ fn has_nine<F: Files<Outside>>(files: F, alloc: Global, want: &[u8]) -> bool {
     reads(&mut files, alloc, 9, want)
 }
 
-// The folder's journal has records of that many bytes, and those at their end.
+// The directory's journal has records of that many bytes, and those at their end.
 fn end_in(rt: &impl Abort, system: &HostRuntime, folder: &PathBuf, len: usize, end: &[u8]) {
     let records = records_of(rt, system, folder, len);
     require(rt, records.ends_with(end), "the last record");

@@ -124,7 +124,7 @@ fn path_of(rt: &HostRuntime, pipe: &PipeReader) -> Result<String, AllocError> {
     format!(in rt.alloc(); "/proc/self/fd/{}", pipe.as_raw_fd())
 }
 
-// A folder with a file of these bytes.
+// A directory with a file of these bytes.
 fn folder_with(
     rt: &HostRuntime,
     folder: &str,
@@ -408,7 +408,7 @@ fn item_of(item: io::Result<Listed<'_>>) -> Item {
     }
 }
 
-// The file `a` is found beside a name that isn't UTF-8, and the listing fails if the folder does.
+// The file `a` is found beside a name that isn't UTF-8, and the listing fails if the directory does.
 fn lists_one(rt: &HostRuntime, folder: &PathBuf, call: Call) -> Result<bool, FolderFault> {
     let system = system(rt, call, ErrorKind::Other, None);
     let mut items = fs::read_dir(&system, folder.as_path())?;

@@ -1,4 +1,4 @@
-//! The kinds of files that an overlay stands on: in memory, in a folder, and failing ones.
+//! The kinds of files that an overlay stands on: in memory, in a directory, and failing ones.
 use crate::folders::{Made, folder_of, has, remove};
 use crate::told::require;
 use eden_model::Outside;
@@ -272,7 +272,7 @@ fn memory_behaves(rt: HostRuntime) {
     );
 }
 
-// How many failures files in the folder count that give those answers.
+// How many failures files in the directory count that give those answers.
 fn failures_in(
     rt: &impl Abort,
     system: &HostRuntime,
@@ -360,7 +360,7 @@ fn failing(
     }
 }
 
-// The folder's files, if that call of the system fails so.
+// The directory's files, if that call of the system fails so.
 fn failing_in(
     rt: &impl Abort,
     system: &HostRuntime,
@@ -391,7 +391,7 @@ fn length_of<F: Files<Outside>>(
     length
 }
 
-// The same of a file in the folder, if that call of the system finds no memory.
+// The same of a file in the directory, if that call of the system finds no memory.
 fn length_in(
     rt: &impl Abort,
     system: &HostRuntime,

@@ -1,4 +1,5 @@
-//! Steps over files in a folder, each of which has to be so: tests are tables of them, and one body goes through them.
+//! Steps over files in a directory, each of which has to be so: tests are tables of them, and one body goes through
+//! them.
 use crate::folders::has;
 use crate::kinds::{Answer, Call, gives, reads};
 use eden_model::Outside;
@@ -7,13 +8,13 @@ use std::alloc::{AllocError, Global};
 use std::path::PathBuf;
 use std::process::Abort;
 
-/// What is asked of files in a folder, and what has to be so.
+/// What is asked of files in a directory, and what has to be so.
 #[derive(Clone, Copy)]
 pub enum Step<'a> {
     Gives(Call<'a>, Answer<'a>),
     /// This many calls have failed.
     HasFailed(u64),
-    /// Whether the folder has that name.
+    /// Whether the directory has that name.
     Has(&'a str, bool),
     /// The file of that number becomes this many bytes 7.
     Fills(u64, usize),

@@ -127,7 +127,7 @@ fn try_to_put(
     fs::write(rt, path.as_path(), file)
 }
 
-/// Puts a file below a folder, and makes the directories above it.
+/// Puts a file below a directory, and makes the directories above it.
 pub(crate) fn put(
     rt: &(impl AllocGlobal + Abort + Files),
     folder: &PathBuf,

@@ -71,7 +71,7 @@ struct Lists<'a> {
     want: &'a [Wanted],
 }
 
-/// Whether an entry is that node, with its number where that is noted. A directory of an object may have become the
+/// Whether an entry is that node, with its number if that is noted. A directory of an object may have become the
 /// mount's own.
 fn is_node<A: Allocator>(entry: &Entry<A>, node: Node) -> bool {
     if entry.kind != node.kind || (node.number != 0 && entry.number != node.number) {

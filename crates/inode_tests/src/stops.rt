@@ -90,7 +90,7 @@ enum Then {
 
 const EACH: &[Then] = &[Then::Unloaded, Then::UnloadedOver, Then::Opened];
 
-/// Two directories, numbers 2 and 3, and a file in the first, number 4; where it is to take the place of another, that
+/// Two directories, numbers 2 and 3, and a file in the first, number 4; if it is to take the place of another, that
 /// has number 5. All directories are loaded.
 fn start(rt: &impl Abort, pair: &mut Pair<Global>, is_over: bool) -> bool {
     pair.insert(rt, DIR_A, Kind::Dir, 7)

@@ -344,7 +344,7 @@ fn number_inside(rt: &impl Abort, mount: &Mount, at: &Path) -> u64 {
 }
 
 /// The root's three entries have the numbers from 2 on, and the one of the directory that is loaded next has 5, also
-/// where that goes.
+/// if that goes.
 #[test]
 fn what_goes_along_keeps_its_numbers(rt: HostRuntime) {
     let alloc = rt.alloc();

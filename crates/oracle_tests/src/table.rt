@@ -38,7 +38,7 @@ pub(crate) fn path(rt: &impl Abort, alloc: Global, text: &str) -> Path {
     Path::new(names).expect(rt, "a path")
 }
 
-/// A row as the tests write it: its path, its kind, and its content; none where that is lost or unlisted.
+/// A row as the tests write it: its path, its kind, and its content; none if that is lost or unlisted.
 pub(crate) type Row = (&'static str, Kind, Option<&'static str>);
 
 fn node(rt: &impl Abort, alloc: Global, kind: Kind, text: Option<&str>) -> Node {

@@ -110,7 +110,7 @@ fn long_objects_are_answered(rt: HostRuntime) {
     }
 }
 
-// A folder of objects in which a file has the name of a directory.
+// A directory of objects in which a file has the name of a directory.
 fn faulty_folder(rt: &HostRuntime) -> io::Result<PathBuf> {
     let folder = empty_folder(rt, "remote")?;
     fs::write(rt, folder.join(rt.alloc(), "83")?, b"")?;

@@ -8,7 +8,7 @@ use mountd_options::{
 use std::alloc::Global;
 use std::process::Abort;
 
-// The tree with the one file test.txt, and the folder of objects.
+// The tree with the one file test.txt, and the directory of objects.
 const ROOT: &str = "d8329fc1cc938780ffdd9f94e0d364e0ea74f579";
 
 const ROOT_BYTES: [u8; 20] = [
@@ -147,7 +147,7 @@ pub(crate) fn is_at(address: &Address, want: At) -> bool {
     }
 }
 
-/// Where objects come from: the folder, as one of objects or as a repository, or a server.
+/// Where objects come from: the directory, as one of objects or as a repository, or a server.
 #[derive(Clone, Copy)]
 enum Origin {
     Folder,
