@@ -71,9 +71,8 @@ module _ {T : Type 0} (A : Table T) where
       × Stores t k (record { kind = k.kind; bytes = body }) u
 
 module _ {T : Type 0} (A : Table T) (honest : Type 0) where
-  -- An attempt ended with the reply: the table of operations' one, or a fault, and the tree is the one after it. What is shown
-  -- of numbers is changed as the request changes it, once it is done, and a `stat` returned the one shown; a fault only gains
-  -- some.
+  -- An attempt ended with the reply: the table of operations' one, or a fault, and the tree is the one after it. What is shown of
+  -- numbers is changed as the request changes it, once it is done, and a `stat` returned the one shown; a fault only gains some.
   pub record Finishes (t : T) (q : Request) (r : Reply) (u : T) : Type 0 where
     pub tried : A.tried t q (ended.Finished r) u
     pub reply : honest → fault_of r ≡ None → Replies (A.shown t) q r

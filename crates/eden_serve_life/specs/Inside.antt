@@ -34,8 +34,7 @@ module _ {W F : Type 0} (w : Ghosts W) (f : Files F W) where
   abbrev pub ClosesAs : Checkout F → SharedEnding F → Type 0
   ClosesAs t left = (N : Numbers) → IsBacking w f N t → Closes w f t.root t (shows w f t.inodes) N left.unclosed left.files
 
-  -- an open checkout was closed, and the first fault reported: its guests were hosted, or there was no memory to share
-  -- it
+  -- an open checkout was closed, and the first fault reported: its guests were hosted, or there was no memory to share it
   abbrev pub Ends : Result (HostedTable (Checkout F)) (Checkout F) → SharedEnding F → Type 0
   Ends (Ok x) left = ClosesAs x.table left × (left.outcome ≡ first_told x.outcome left.unclosed)
   Ends (Err t) left = ClosesAs t left × (left.outcome ≡ Err (life.Open opens.Memory))

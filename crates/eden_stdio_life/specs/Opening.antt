@@ -46,8 +46,8 @@ module _ {W F : Type 0} (w : Ghosts W) (f : Files F W) where
     pub opens : w.honest → CanOpen w.repository tree N root (f.stored files)
 
   -- The checkout of that commit wasn't closed, for that fault. It is then another, over these files, which shows this tree
-  -- still. If the outside is honest no name in the files dangles, and if no loaded directory is unsaved they show the tree
-  -- themselves.
+  -- still. If the outside is honest no name in the files dangles, and if no loaded directory is unsaved they show the
+  -- tree themselves.
   pub record StaysOpen (root : Id) (t : Checkout F) (tree : Tree) (why : FilesFault) (files : F) : Type 0 where
     pub left : Checkout F
     pub over : files ≡ left.inodes.files

@@ -15,8 +15,7 @@ use Rattle.eden_wire.specs.Serving.{Known, Session}
 use Rattle.eden_stdio_life.specs.declared.serving.Served.{Served}
 use Rattle.eden_stdio_life.specs.Calls.{CallAnswers, MayBeTold}
 
--- a caller in whose mount of that room nothing has happened, and whose source wasn't asked; the history may become this
--- long
+-- a caller in whose mount of that room nothing has happened, and whose source wasn't asked; the history may become this long
 pub record Begins {T S : Type 0} (r : Room) (limit : ℕ) (t : T) (s : S) (d : Desk T S) : Type 0 where
   pub core : d.core ≡ core_from t r.queue r.seats [] limit
   pub source : d.source ≡ s

@@ -39,8 +39,7 @@ module _ {W I O : Type 0} (w : Ghosts W) (i : Read I) (o : Write O) where
     abbrev pub IsOverlayRun : MountOptions → ℕ → Type 0
     IsOverlayRun options status = (files : K) × IsAskedRun f options (Overlay files) status
 
-    -- .. over files in memory, of which none is there yet, if no directory is to keep the changes, and else over a
-    -- directory's
+    -- .. over files in memory, of which none is there yet, if no directory is to keep the changes, and else over a directory's
     abbrev pub IsKeptRun : {T : Type 0} → Option T → MountOptions → ℕ → Type 0
     IsKeptRun None options status = (files : M) × IsNothing (f.stored (Memory files)) × IsAskedRun f options (Memory files) status
     IsKeptRun (Some folder) options status = IsOverlayRun options status

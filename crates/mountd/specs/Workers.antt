@@ -43,8 +43,7 @@ module _ {I O : Type 0} (i : Read I) (o : Write O) where
   abbrev pub IsAnswered : Ended → Type 0
   IsAnswered ended = IsAnsweredFrom FetchedFromFolder i o ended ⊎ IsAnsweredFrom FetchedFromGit i o ended
 
-  -- this many connections were answered, and this is reported of them: the first fault, in the order in which they were
-  -- taken
+  -- this many connections were answered, and this is reported of them: the first fault, in the order in which they were taken
   pub record HaveEnded (count : ℕ) (told : Ended) : Type 0 where
     pub ends : List Ended
     pub so_many : length ends ≡ count
