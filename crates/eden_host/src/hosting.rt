@@ -29,7 +29,7 @@ use std::thread::{self, Scope, Threads};
 /// What is left of a mount that was served to many.
 #[derive(Drop)]
 pub struct Hosted<W: World, T: Attempts<W> + Drop, A: Allocator, J: Naming, H: History> {
-    /// The mount, with nothing pending, where the passes were those of the shared mount.
+    /// The mount, with nothing pending, if the passes were those of the shared mount.
     pub mount: Result<Mount<W, T, A, H>, Torn<W, T, A, J, H>>,
     /// The first fault of listening or of a session.
     pub outcome: Result<(), HostFault>,
