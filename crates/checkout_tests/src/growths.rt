@@ -1,5 +1,5 @@
 //! A mount whose directories, cache and queue lie in a heap with little room. What finds none is told at its call and
-//! changes nothing, and once there is room all goes on.
+//! changes nothing, and once there is room all continues.
 
 ghost use Rattle.std.specs.Prelude.{◌≡◌, []};
 
@@ -68,7 +68,7 @@ struct Trial<'h> {
 }
 
 impl<'h> Trial<'h> {
-    /// The sample commit, and a heap that has room for so many bytes.
+    /// The sample commit, and a heap that has room for this many bytes.
     fn new(rt: &impl Abort, alloc: Global, heap: &'h LocalHeap, room: usize) -> Trial<'h> {
         let commit = Commit::two_files(alloc).expect(rt, "a commit");
         let tree = commit.whole(alloc).expect(rt, "a tree");
@@ -163,7 +163,7 @@ fn start<'h>(rt: &impl Abort, trial: &Trial<'h>, mount: &mut Mounted<'h>, pass: 
     assert!(rt; mount.start(pass, request(rt, trial.alloc, line)).is_ok());
 }
 
-/// The oracle allows the reply, and goes on by it.
+/// The oracle allows the reply, and continues by it.
 fn follow(rt: &impl Abort, trial: &mut Trial, request: &Request, reply: &Reply) {
     let allows = trial.tree.allows(trial.alloc, request, reply);
     assert!(rt; allows.expect(rt, "memory"));
@@ -248,7 +248,7 @@ fn live(rt: &impl Abort, alloc: Global, heap: &LocalHeap, room: usize) -> Option
     trial.seen
 }
 
-/// Where memory is wanted in a life that has room for so many bytes, which are given back.
+/// Where memory is wanted in a life that has room for this many bytes, which are given back.
 fn seen_in(rt: &impl Abort, alloc: Global, room: usize) -> Option<Seen> {
     let heap = LocalHeap::new(alloc, HEAP).expect(rt, "memory");
     let seen = live(rt, alloc, &heap, room);

@@ -14,7 +14,7 @@ use std::slice::from_ref;
 /// How deep the directories stand, one inside the other.
 const DEEPEST: u32 = 64;
 
-/// The depths of those that are looked at, and what is told of each.
+/// The depths of those that are looked at, and what is printed of each.
 const DEPTHS: &[(u32, &str)] = &[
     (1, "kind at depth 1"),
     (8, "kind at depth 8"),
@@ -24,7 +24,7 @@ const DEPTHS: &[(u32, &str)] = &[
 /// The sizes in bytes of the files that are read and written; each file's number is its size.
 const SIZES: &[u64] = &[4_096, 1 << 20];
 
-/// What is asked of the files again and again, and what is told of it.
+/// What is asked of the files again and again, and what is printed of it.
 const USES: &[(u64, Use, &str)] = &[
     (4_096, Use::Read(0, 4_096), "read of 4096 bytes of 4096"),
     (4_096, Use::Read(0, 65_536), "read of 65536 bytes of 4096"),
@@ -51,7 +51,7 @@ const LOOKS: u32 = 100_000;
 
 const ROUNDS: u32 = 1_000;
 
-/// Makes the requests in turn, so many times, and answers how many were done.
+/// Makes the requests in turn, this many times, and answers how many were done.
 fn repeat<F: Files<Outside>>(
     alloc: Global,
     tree: &mut Tree<F>,
@@ -65,8 +65,8 @@ fn repeat<F: Files<Outside>>(
     done
 }
 
-/// Makes the requests in turn, so many times, and tells how many were done, and how long each took. They were made once
-/// before, so that what they look at is loaded.
+/// Makes the requests in turn, this many times, and prints how many were done, and how long each took. They were made
+/// once before, so that what they look at is loaded.
 fn measure<F: Files<Outside>>(
     bench: Bench,
     tree: &mut Tree<F>,
@@ -81,7 +81,7 @@ fn measure<F: Files<Outside>>(
     bench.time_each(what, start, done)
 }
 
-/// Makes the request so many times, and tells of it.
+/// Makes the request this many times, and prints that.
 fn measure_one<F: Files<Outside>>(
     bench: Bench,
     tree: &mut Tree<F>,
@@ -135,7 +135,7 @@ fn measure_uses<F: Files<Outside>>(bench: Bench, tree: &mut Tree<F>) -> io::Resu
     Ok(())
 }
 
-/// The request for a page of the commit's directory, from its middle on. None where its path is none.
+/// The request for a page of the commit's directory, from its middle on. None if its path is none.
 fn page(alloc: Global, count: u32) -> Result<Option<Request>, AllocError> {
     match path_to(alloc, Place::Directory, None)? {
         None => Ok(None),
@@ -197,7 +197,7 @@ fn measure_files<F: Files<Outside>>(bench: Bench, tree: &mut Tree<F>) -> io::Res
     measure_uses(bench, tree)
 }
 
-/// Attempts over files, on a commit with a directory of so many files.
+/// Attempts over files, on a commit with a directory of this many files.
 fn run_on<F: Files<Outside>>(bench: Bench, tree: &mut Tree<F>, count: u32) -> io::Result<()> {
     println!(bench.rt; "attempts, a directory of {count} files among them")?;
     measure_chain(bench, tree)?;

@@ -2,7 +2,7 @@ use std::alloc::Global;
 use std::io;
 use std::time::Instant;
 
-/// What is told of a part of a workload: the text around the number that came of it, and the name of its time.
+/// What is printed of a part of a workload: the text around the number that came of it, and the name of its time.
 #[derive(Clone, Copy)]
 pub struct Part<'a> {
     pub before: &'a str,
@@ -10,7 +10,7 @@ pub struct Part<'a> {
     pub time: &'a str,
 }
 
-/// By what a workload allocates and tells, and whether it tells times. The gate compares outputs, so it runs without.
+/// By what a workload allocates and prints, and whether it prints times. The gate compares outputs, so it runs without.
 #[derive(Clone, Copy)]
 pub struct Bench<'a> {
     pub rt: &'a HostRuntime,
@@ -22,7 +22,7 @@ impl Bench<'_> {
         self.rt.alloc()
     }
 
-    /// When a part begins; none where times aren't told, or where there is no clock.
+    /// When a part begins; none if times aren't printed, or if there is no clock.
     pub fn start(self) -> Option<Instant> {
         if self.is_timed {
             Instant::now(self.rt).ok()
@@ -39,13 +39,13 @@ impl Bench<'_> {
         }
     }
 
-    /// How many nanoseconds each of so many took since a part began.
+    /// How many nanoseconds each of this many took since a part began.
     pub fn nanoseconds_each(self, start: Option<Instant>, count: u32) -> Option<f64> {
         let seconds = self.seconds(start)?;
         Some(seconds * 1e9 / f64::from(count.max(1)))
     }
 
-    /// Tells how long a part took since it began.
+    /// Prints how long a part took since it began.
     pub fn time(self, part: &str, start: Option<Instant>) -> io::Result<()> {
         match self.seconds(start) {
             None => Ok(()),
@@ -53,7 +53,7 @@ impl Bench<'_> {
         }
     }
 
-    /// Tells how long each of so many took since they began.
+    /// Prints how long each of this many took since they began.
     pub fn time_each(self, part: &str, start: Option<Instant>, count: u32) -> io::Result<()> {
         match self.nanoseconds_each(start, count) {
             None => Ok(()),
@@ -61,7 +61,7 @@ impl Bench<'_> {
         }
     }
 
-    /// Tells what came of a part, and how long each of so many took since it began.
+    /// Prints what came of a part, and how long each of this many took since it began.
     pub fn tell(self, part: Part, came: u64, start: Option<Instant>, count: u32) -> io::Result<()> {
         println!(self.rt; "{}{came}{}", part.before, part.after)?;
         self.time_each(part.time, start, count)

@@ -16,7 +16,7 @@ const MANY: u32 = 65_536;
 /// The object that is put, under one key after another.
 const FRAMED: &[u8] = b"blob 10\0version 1\n";
 
-/// How long a call takes, in nanoseconds; none where times aren't told.
+/// How long a call takes, in nanoseconds; none if times aren't printed.
 #[derive(Clone, Copy)]
 struct Times {
     put: Option<f64>,
@@ -56,7 +56,7 @@ fn add(alloc: Global, objects: &mut Vec<Object>, key: Key) -> Result<(), AllocEr
     }
 }
 
-/// So many times that blob.
+/// This many times that blob.
 fn objects(alloc: Global, count: u32) -> Result<Vec<Object>, AllocError> {
     let key = Key {
         kind: ObjKind::Blob,
@@ -87,7 +87,7 @@ fn put_all(cache: &mut ObjectCache<Global>, objects: &mut Vec<Object>, entries: 
     refused
 }
 
-/// Looks so many keys up, and answers how many were there.
+/// Looks this many keys up, and answers how many were there.
 fn get_all(cache: &mut ObjectCache<Global>, count: u32, entries: u32) -> u32 {
     let mut state = 2;
     let mut found = 0u32;
@@ -103,7 +103,7 @@ fn get_all(cache: &mut ObjectCache<Global>, count: u32, entries: u32) -> u32 {
     found
 }
 
-/// Puts so many objects.
+/// Puts this many objects.
 fn time_puts(
     bench: Bench,
     cache: &mut ObjectCache<Global>,
@@ -117,7 +117,7 @@ fn time_puts(
     Ok(Timed { number, each })
 }
 
-/// Looks so many keys up.
+/// Looks this many keys up.
 fn time_gets(bench: Bench, cache: &mut ObjectCache<Global>, count: u32, entries: u32) -> Timed {
     let start = bench.start();
     let number = get_all(cache, count, entries);
@@ -125,7 +125,7 @@ fn time_gets(bench: Bench, cache: &mut ObjectCache<Global>, count: u32, entries:
     Timed { number, each }
 }
 
-/// Fills the cache, puts so many objects more and looks so many up.
+/// Fills the cache, puts this many objects more and looks this many up.
 fn measure_calls(
     bench: Bench,
     cache: &mut ObjectCache<Global>,
@@ -159,7 +159,7 @@ fn measure(bench: Bench, count: u32, entries: u32) -> io::Result<Times>
     Ok(times)
 }
 
-/// Tells how long a call takes at each size, and the ratio between the two, where times are told.
+/// Prints how long a call takes at each size, and the ratio between the two, if times are printed.
 fn tell(bench: Bench, call: &str, few: Option<f64>, many: Option<f64>) -> io::Result<()> {
     match (few, many) {
         (Some(few), Some(many)) => {
@@ -172,8 +172,8 @@ fn tell(bench: Bench, call: &str, few: Option<f64>, many: Option<f64>) -> io::Re
     }
 }
 
-/// So many puts into a full cache of each size and so many gets from it. Timed, it tells how long a call takes at each
-/// size, and the ratio between the two.
+/// This many puts into a full cache of each size and this many gets from it. Timed, it prints how long a call takes at
+/// each size, and the ratio between the two.
 pub fn run(bench: Bench, count: u32) -> io::Result<()> {
     let few = measure(bench, count, FEW)?;
     let many = measure(bench, count, MANY)?;

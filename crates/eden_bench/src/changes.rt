@@ -44,7 +44,7 @@ fn has_file<F: Files<Outside>>(table: &Table<F>, path: &[Name], name: &Name) -> 
     }
 }
 
-/// Gives the file of the table that kind. False where there is none, or where that fails.
+/// Gives the file of the table that kind. False if there is none, or if that fails.
 fn change<F: Files<Outside>>(
     alloc: Global,
     table: &mut Table<F>,
@@ -127,7 +127,7 @@ fn nest_all<F: Files<Outside>>(
     }
 }
 
-/// Loads a chain of directories along the names into each table, each of so many entries. How many those are.
+/// Loads a chain of directories along the names into each table, each of this many entries. How many those are.
 fn load_chains<F: Files<Outside>>(
     alloc: Global,
     tables: &mut [Table<F>],
@@ -139,7 +139,7 @@ fn load_chains<F: Files<Outside>>(
     Ok(entries.len())
 }
 
-/// Changes a file of each table below the names, in directories of so many entries.
+/// Changes a file of each table below the names, in directories of this many entries.
 fn measure_tables<F: Files<Outside>>(
     bench: Bench,
     tables: &mut [Table<F>],
@@ -152,7 +152,7 @@ fn measure_tables<F: Files<Outside>>(
     measure_file(bench, tables, &names[..depth.saturating_sub(1)])
 }
 
-/// Changes a file below so many names, in directories of so many entries.
+/// Changes a file below this many names, in directories of this many entries.
 fn measure_depth<F: Files<Outside>, K: Keeps<F>>(
     bench: Bench,
     keeps: &K,
@@ -165,7 +165,7 @@ fn measure_depth<F: Files<Outside>, K: Keeps<F>>(
     measure_tables(bench, tables.as_mut_slice(), names.as_slice(), count)
 }
 
-/// The first change and the second one, at several depths in directories of so many entries.
+/// The first change and the second one, at several depths in directories of this many entries.
 pub fn run<F: Files<Outside>, K: Keeps<F>>(bench: Bench, keeps: &K, count: u32) -> io::Result<()> {
     for depth in DEPTHS {
         measure_depth(bench, keeps, *depth, count)?;

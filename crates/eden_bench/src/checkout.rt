@@ -42,7 +42,7 @@ fn framed_root(alloc: Global, directory: Id) -> Result<Vec<u8>, AllocError> {
     Ok(framed)
 }
 
-/// Puts a tree in. False where it is none, or where memory is refused.
+/// Puts a tree in. False if it is none, or if memory is refused.
 fn bring<F: Files<Outside>>(alloc: Global, tree: &mut Tree<F>, framed: Vec<u8>) -> bool {
     let key = Key {
         kind: ObjKind::Tree,
@@ -54,7 +54,7 @@ fn bring<F: Files<Outside>>(alloc: Global, tree: &mut Tree<F>, framed: Vec<u8>) 
     }
 }
 
-/// A checkout over these files of the commit with that root. None where it isn't opened.
+/// A checkout over these files of the commit with that root. None if it isn't opened.
 fn open<F: Files<Outside>>(alloc: Global, files: F, root: Id) -> Option<Tree<F>> {
     let cache = ObjectCache::new(alloc, 8, CACHE_BYTES, 8).ok()?;
     Checkout::open(alloc, alloc, files, root, cache).ok()
@@ -67,19 +67,19 @@ struct Commit {
     directory: Vec<u8>,
 }
 
-/// A commit whose directory has so many files.
+/// A commit whose directory has this many files.
 fn new_commit(alloc: Global, count: u32) -> Result<Commit, AllocError> {
     let directory = framed_tree(alloc, Order::Git, count)?;
     let root = framed_root(alloc, id_of(directory.as_slice()))?;
     Ok(Commit { root, directory })
 }
 
-/// Puts both trees in. False where memory is refused.
+/// Puts both trees in. False if memory is refused.
 fn bring_both<F: Files<Outside>>(alloc: Global, tree: &mut Tree<F>, commit: Commit) -> bool {
     bring(alloc, tree, commit.directory) && bring(alloc, tree, commit.root)
 }
 
-/// A checkout over these files of that commit. None where it isn't opened.
+/// A checkout over these files of that commit. None if it isn't opened.
 fn open_commit<F: Files<Outside>>(alloc: Global, files: F, commit: Commit) -> Option<Tree<F>> {
     let mut tree = open(alloc, files, id_of(commit.root.as_slice()))?;
     if bring_both(alloc, &mut tree, commit) {
@@ -89,7 +89,7 @@ fn open_commit<F: Files<Outside>>(alloc: Global, files: F, commit: Commit) -> Op
     }
 }
 
-/// A checkout over these files of a commit whose directory has so many files. None where it isn't opened.
+/// A checkout over these files of a commit whose directory has this many files. None if it isn't opened.
 pub fn opened<F: Files<Outside>>(
     alloc: Global,
     files: F,
@@ -107,7 +107,7 @@ fn directory(alloc: Global, place: Place) -> Result<Option<Name>, AllocError> {
     }
 }
 
-/// The names on the way to a place and, where there is a number, to the file of that number.
+/// The names on the way to a place and, if there is a number, to the file of that number.
 fn names_to(alloc: Global, place: Place, number: Option<u64>) -> Result<Vec<Name>, AllocError> {
     let mut names = Vec::new(alloc);
     if let Some(directory) = directory(alloc, place)? {
@@ -121,7 +121,7 @@ fn names_to(alloc: Global, place: Place, number: Option<u64>) -> Result<Vec<Name
     Ok(names)
 }
 
-/// The path to a place and, where there is a number, to the file of that number. None where it is none.
+/// The path to a place and, if there is a number, to the file of that number. None if it is none.
 pub fn path_to(
     alloc: Global,
     place: Place,
@@ -144,7 +144,7 @@ fn request_at(alloc: Global, path: Path, what: Use) -> Result<Request, AllocErro
     })
 }
 
-/// The request on the file of that number. None where its path is none.
+/// The request on the file of that number. None if its path is none.
 pub fn request(
     alloc: Global,
     place: Place,
@@ -191,7 +191,7 @@ pub fn is_used<F: Files<Outside>>(
     }
 }
 
-/// Adds the request on the file of that number, where it has a path.
+/// Adds the request on the file of that number, if it has a path.
 pub fn add_request(
     alloc: Global,
     requests: &mut Vec<Request>,

@@ -43,7 +43,7 @@ fn found(directory: &Dir<Global>, names: &[Name]) -> u32 {
     found
 }
 
-/// Puts so many plain files into a directory, by that stride.
+/// Puts this many plain files into a directory, by that stride.
 fn measure_inserts(
     bench: Bench,
     directory: &mut Dir<Global>,
@@ -59,7 +59,7 @@ fn measure_inserts(
     bench.time("inserts", start)
 }
 
-/// Looks names up in a directory of so many.
+/// Looks names up in a directory of this many.
 fn measure_lookups(bench: Bench, directory: &Dir<Global>, count: u32) -> io::Result<()> {
     let names = names(bench.alloc(), LOOKED_UP, STRIDE, count)?;
     let start = bench.start();
@@ -71,8 +71,8 @@ fn measure_lookups(bench: Bench, directory: &Dir<Global>, count: u32) -> io::Res
     )
 }
 
-/// Fills a directory of so many names in byte order and looks names up in it, and fills one in another order where the
-/// names are at most 100,000: each such insert moves those behind it.
+/// Fills a directory of this many names in byte order and looks names up in it, and fills one in another order if the
+/// names are at most 100,000: each such insert moves those after it.
 pub fn run(bench: Bench, count: u32) -> io::Result<()> {
     let mut directory = Dir::new(bench.alloc(), 0);
     measure_inserts(bench, &mut directory, count, 1)?;

@@ -28,7 +28,7 @@ const LOOKS: u32 = 1_000_000;
 /// How many directories are loaded one inside the other.
 const DEPTH: u32 = 64;
 
-/// How many names the paths have that are looked along, and what is told of it.
+/// How many names the paths have that are looked along, and what is printed of it.
 const PATHS: &[(usize, &str)] = &[
     (1, " looks at depth 1 found their entry"),
     (8, " looks at depth 8 found their entry"),
@@ -71,7 +71,7 @@ pub fn table<F: Files<Outside>, K: Keeps<F>>(
     Ok(Inodes::new(alloc, overlay, Origin::Object(ID), FIRST))
 }
 
-/// So many tables whose roots are objects and aren't loaded.
+/// This many tables whose roots are objects and aren't loaded.
 pub fn tables<F: Files<Outside>, K: Keeps<F>>(
     alloc: Global,
     keeps: &K,
@@ -84,7 +84,7 @@ pub fn tables<F: Files<Outside>, K: Keeps<F>>(
     Ok(tables)
 }
 
-/// The entries of a tree's body; none where it is no tree's.
+/// The entries of a tree's body; none if it is no tree's.
 fn entries_of(alloc: Global, body: &[u8]) -> Result<Vec<TreeEntry>, AllocError>
     ensures { IfOk result (λ v. NamesDiffer v.items) }
 {
@@ -94,7 +94,7 @@ fn entries_of(alloc: Global, body: &[u8]) -> Result<Vec<TreeEntry>, AllocError>
     }
 }
 
-/// So many entries, as the order says.
+/// This many entries, as the order says.
 pub fn entries(alloc: Global, order: Order, count: u32) -> Result<Vec<TreeEntry>, AllocError>
     ensures { IfOk result (λ v. NamesDiffer v.items) }
 {
@@ -113,8 +113,8 @@ fn read_again(alloc: Global, body: &[u8], rounds: u32) -> usize {
     found
 }
 
-/// Loads the directory of a tree object as a mount does: with the numbers saved for it, or from those entries. False
-/// where memory is refused, or the files fail.
+/// Loads the directory of a tree object as a mount does: with the numbers saved for it, or from those entries. False if
+/// memory is refused, or the files fail.
 fn load_either<F: Files<Outside>>(
     alloc: Global,
     table: &mut Table<F>,
@@ -136,8 +136,8 @@ fn load_either<F: Files<Outside>>(
     loaded.is_ok()
 }
 
-/// Loads the directory at a path from those entries. False where none is there that a tree object has, or where memory
-/// is refused.
+/// Loads the directory at a path from those entries. False if none is there that a tree object has, or if memory is
+/// refused.
 pub fn load<F: Files<Outside>>(
     alloc: Global,
     table: &mut Table<F>,
@@ -152,7 +152,7 @@ pub fn load<F: Files<Outside>>(
     }
 }
 
-/// Loads a directory of those entries for each of the names, where those before it lead, and answers how many were.
+/// Loads a directory of those entries for each of the names, if those before it lead, and answers how many were.
 pub fn nest<F: Files<Outside>>(
     alloc: Global,
     table: &mut Table<F>,
@@ -192,19 +192,19 @@ fn unload_all(alloc: Global, tables: &mut [Kept]) -> u64 {
     gone
 }
 
-/// How often so many have to be taken, at least once, to be about as many in all.
+/// How often this many have to be taken, at least once, to be about as many in all.
 pub fn rounds(all: u32, count: u32) -> u32 {
     all.checked_div(count).unwrap_or(all).max(1)
 }
 
-/// Reads the entries of a tree's body, so many in all.
+/// Reads the entries of a tree's body, this many in all.
 fn measure_reads(bench: Bench, body: &[u8], rounds: u32, all: u32) -> io::Result<()> {
     let start = bench.start();
     let found = read_again(bench.alloc(), body, rounds);
     bench.tell(READ, found as u64, start, all)
 }
 
-/// Loads the root of each table from those entries, so many in all, and unloads it.
+/// Loads the root of each table from those entries, this many in all, and unloads it.
 fn measure_tables(
     bench: Bench,
     tables: &mut [Kept],
@@ -221,7 +221,7 @@ fn measure_tables(
     bench.tell(UNLOADED, gone, start, all)
 }
 
-/// Loads the root of so many tables from those entries, and unloads it.
+/// Loads the root of this many tables from those entries, and unloads it.
 fn measure_loads(bench: Bench, entries: &[TreeEntry], rounds: u32, all: u32) -> io::Result<()>
     requires { NamesDiffer entries.now }
 {
@@ -236,7 +236,7 @@ fn measure_body(bench: Bench, body: &[u8], rounds: u32, all: u32) -> io::Result<
     measure_loads(bench, entries.as_slice(), rounds, all)
 }
 
-/// Directories of so many entries, which stand in that order.
+/// Directories of this many entries, which stand in that order.
 fn measure_directory(bench: Bench, order: Order, count: u32) -> io::Result<()> {
     let rounds = rounds(ENTRIES, count);
     let text = order.text();
@@ -289,7 +289,8 @@ fn measure_paths(bench: Bench) -> io::Result<()> {
     measure_nested(bench, &mut table, entries.as_slice())
 }
 
-/// Reads, loads and unloads directories of so many entries, in Git's order and in a random one, and looks along paths.
+/// Reads, loads and unloads directories of this many entries, in Git's order and in a random one, and looks along
+/// paths.
 pub fn run(bench: Bench, count: u32) -> io::Result<()> {
     measure_directory(bench, Order::Git, count)?;
     measure_directory(bench, Order::Random, count)?;

@@ -1,4 +1,4 @@
-// What keeps the files of a workload: memory, or a folder.
+// What keeps the files of a workload: memory, or a directory.
 use eden_model::Outside;
 use eden_overlay::{Files, FolderFiles, MemoryFiles};
 use std::alloc::{AllocError, Global};
@@ -6,7 +6,7 @@ use std::path::PathBuf;
 
 /// Where files are kept.
 pub trait Keeps<F: Files<Outside>> {
-    /// About how many entries are loaded where each change is stored there: a store in a folder waits for the device.
+    /// About how many entries are loaded if each change is stored there: a store in a directory waits for the device.
     fn entries(&self) -> u32;
 
     /// The files that are kept there.
@@ -17,7 +17,7 @@ pub trait Keeps<F: Files<Outside>> {
 #[derive(Drop)]
 pub struct InMemory;
 
-/// One folder, which has to be there and empty.
+/// One directory, which has to be there and empty.
 #[derive(Drop)]
 pub struct InFolder<'a> {
     pub rt: &'a HostRuntime,

@@ -62,7 +62,7 @@ fn measure<F: Files<Outside>>(
     bench.time(part, start)
 }
 
-/// Writes the file, so many pieces.
+/// Writes the file, this many pieces.
 fn write<F: Files<Outside>>(bench: Bench, tree: &mut Tree<F>, pieces: u32) -> io::Result<()> {
     if is_used(bench.alloc(), tree, LARGE, Use::Create)? {
         measure(bench, tree, "written in pieces", Way::Written, pieces)
@@ -71,7 +71,7 @@ fn write<F: Files<Outside>>(bench: Bench, tree: &mut Tree<F>, pieces: u32) -> io
     }
 }
 
-/// Reads the file, so many pieces, the first of them after another file's turn.
+/// Reads the file, this many pieces, the first of them after another file's turn.
 fn read<F: Files<Outside>>(bench: Bench, tree: &mut Tree<F>, pieces: u32) -> io::Result<()> {
     if is_used(bench.alloc(), tree, SMALL, Use::Create)? {
         measure(bench, tree, "the first page", Way::Read, 1)?;
@@ -81,7 +81,7 @@ fn read<F: Files<Outside>>(bench: Bench, tree: &mut Tree<F>, pieces: u32) -> io:
     }
 }
 
-/// Writes and reads a file of so many MiB.
+/// Writes and reads a file of this many MiB.
 fn run_on<F: Files<Outside>>(bench: Bench, tree: &mut Tree<F>, count: u32) -> io::Result<()> {
     let pieces = count.saturating_mul(PIECES);
     println!(bench.rt; "an own file of {count} MiB")?;

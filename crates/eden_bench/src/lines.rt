@@ -105,7 +105,7 @@ fn measure_kinds(bench: Bench, count: u32) -> io::Result<()> {
     exchange(bench, "kind: ", b"kind /folder/file.txt", &kind, count)
 }
 
-/// Reads and writes so many of each of three requests: a kind, a page that is read, and a page that is written.
+/// Reads and writes this many of each of three requests: a kind, a page that is read, and a page that is written.
 pub fn run(bench: Bench, count: u32) -> io::Result<()> {
     measure_kinds(bench, count)?;
     measure_reading(bench, count)?;

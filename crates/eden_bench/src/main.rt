@@ -1,5 +1,5 @@
-//! Benchmarks: `eden_bench WORKLOAD COUNT [timed]` runs a workload over so many entries and prints what came of it, and
-//! with `timed` how long each part took. `make bench` runs them at full size.
+//! Benchmarks: `eden_bench WORKLOAD COUNT [timed]` runs a workload over this many entries and prints what came of it,
+//! and with `timed` how long each part took. `make bench` runs them at full size.
 #![tactic(auto)]
 
 mod attempts;
@@ -33,7 +33,7 @@ const USAGE: &str =
     "usage: eden_bench attempts|cache|changes|directory|inodes|large|lines|overlay|stores|tree|unloads|waits COUNT \
      [timed], or eden_bench attempts|changes|large|stores|unloads COUNT timed FOLDER, or eden_bench oracle";
 
-/// Runs a workload over the files that are kept there. None where the name is of no such workload.
+/// Runs a workload over the files that are kept there. None if the name is of no such workload.
 fn run_over<F: Files<Outside>, K: Keeps<F>>(
     bench: Bench,
     keeps: &K,
@@ -50,7 +50,7 @@ fn run_over<F: Files<Outside>, K: Keeps<F>>(
     }
 }
 
-/// Runs a workload in memory. None where the name is of none.
+/// Runs a workload in memory. None if the name is of none.
 fn run(bench: Bench, name: &str, count: u32) -> Option<io::Result<()>> {
     match name {
         "cache" => Some(cache::run(bench, count)),
@@ -64,7 +64,7 @@ fn run(bench: Bench, name: &str, count: u32) -> Option<io::Result<()>> {
     }
 }
 
-/// Runs a workload over files in a folder. None where the name is of no such workload.
+/// Runs a workload over files in a directory. None if the name is of no such workload.
 fn run_on(bench: Bench, name: &str, count: u32, folder: &str) -> Option<io::Result<()>> {
     let folder = PathBuf::from(String::from_str(bench.alloc(), folder).ok()?);
     let keeps = InFolder {
@@ -74,7 +74,7 @@ fn run_on(bench: Bench, name: &str, count: u32, folder: &str) -> Option<io::Resu
     run_over(bench, &keeps, name, count)
 }
 
-/// Runs the workload that the words name. None where they name none.
+/// Runs the workload that the words name. None if they name none.
 fn run_words(rt: &HostRuntime, words: &[String]) -> Option<io::Result<()>> {
     let name = words.get(1)?.as_str();
     let count = words.get(2)?.as_str().parse::<u32>().ok()?;

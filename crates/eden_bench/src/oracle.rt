@@ -41,7 +41,7 @@ impl Lost {
     }
 }
 
-/// The path of one name. None where it is none, or where memory is refused.
+/// The path of one name. None if it is none, or if memory is refused.
 fn top(alloc: Global, name: &[u8]) -> Option<Path> {
     let bytes = Vec::from_slice(alloc, name).ok()?;
     let name = Name::new(bytes).ok()?;
@@ -50,7 +50,7 @@ fn top(alloc: Global, name: &[u8]) -> Option<Path> {
     Path::new(names).ok()
 }
 
-/// Adds a row. False where there is no path or no memory.
+/// Adds a row. False if there is no path or no memory.
 fn add(rows: &mut Vec<(Path, Node)>, path: Option<Path>, node: Node) -> bool {
     match path {
         None => false,
@@ -64,7 +64,7 @@ fn add(rows: &mut Vec<(Path, Node)>, path: Option<Path>, node: Node) -> bool {
     }
 }
 
-/// The tree that requests are answered on. None where memory is refused.
+/// The tree that requests are answered on. None if memory is refused.
 fn tree(alloc: Global) -> Option<WholeTree> {
     let mut rows = Vec::new(alloc);
     let root = Path::new(Vec::new(alloc)).ok();

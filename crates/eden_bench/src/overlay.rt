@@ -31,7 +31,7 @@ fn entry(name: Name, number: u32) -> StoredEntry
     }
 }
 
-/// So many plain files, in byte order.
+/// This many plain files, in byte order.
 fn entries(alloc: Global, count: u32) -> Result<Vec<StoredEntry>, AllocError>
     ensures { IfOk result (λ v. AllByRecursion IsStorable v.items) }
 {
@@ -44,7 +44,7 @@ fn entries(alloc: Global, count: u32) -> Result<Vec<StoredEntry>, AllocError>
     Ok(entries)
 }
 
-/// The stored file, or none where the entries can't be stored or memory is refused.
+/// The stored file, or none if the entries can't be stored or memory is refused.
 fn encoded(alloc: Global, entries: &[StoredEntry]) -> Option<Vec<u8>>
     requires { AllByRecursion IsStorable entries.now }
 {
@@ -100,7 +100,7 @@ fn measure_decoding(bench: Bench, file: &[u8], rounds: u32, all: u32) -> io::Res
     bench.tell(DECODED, found as u64, start, all)
 }
 
-/// Encodes and decodes the stored file of these entries, so many times.
+/// Encodes and decodes the stored file of these entries, this many times.
 fn measure_both(bench: Bench, entries: &[StoredEntry], count: u32, rounds: u32) -> io::Result<()>
     requires { AllByRecursion IsStorable entries.now }
 {
@@ -114,7 +114,7 @@ fn measure_both(bench: Bench, entries: &[StoredEntry], count: u32, rounds: u32) 
     }
 }
 
-/// Encodes and decodes the stored file of a directory of so many entries, again and again.
+/// Encodes and decodes the stored file of a directory of this many entries, again and again.
 pub fn run(bench: Bench, count: u32) -> io::Result<()> {
     let rounds = ENTRIES.checked_div(count).unwrap_or(ENTRIES);
     let entries = entries(bench.alloc(), count)?;

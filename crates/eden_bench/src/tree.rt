@@ -78,7 +78,7 @@ fn add_entry(
     body.extend_from_slice(order.id(place).bytes.as_slice())
 }
 
-/// The body of a tree of so many entries: files, all of one id, but for what the order says.
+/// The body of a tree of this many entries: files, all of one id, but for what the order says.
 pub fn tree_body(alloc: Global, order: Order, count: u32) -> Result<Vec<u8>, AllocError> {
     let mut body = Vec::new(alloc);
     for place in 0..count {
@@ -87,7 +87,7 @@ pub fn tree_body(alloc: Global, order: Order, count: u32) -> Result<Vec<u8>, All
     Ok(body)
 }
 
-/// The framed tree of so many entries.
+/// The framed tree of this many entries.
 pub fn framed_tree(alloc: Global, order: Order, count: u32) -> Result<Vec<u8>, AllocError> {
     let body = tree_body(alloc, order, count)?;
     let mut framed = format!(in alloc; "tree {}\0", body.len())?.into_bytes();
@@ -118,7 +118,7 @@ fn check(bench: Bench, id: Id, framed: Vec<u8>) -> io::Result<()> {
     }
 }
 
-/// Digests a tree of so many entries in that order.
+/// Digests a tree of this many entries in that order.
 fn digest(bench: Bench, order: Order, count: u32, framed: &[u8]) -> io::Result<Id> {
     let (text, length) = (order.text(), framed.len());
     println!(bench.rt; "tree of {count} entries in {text}, {length} bytes")?;
@@ -128,7 +128,7 @@ fn digest(bench: Bench, order: Order, count: u32, framed: &[u8]) -> io::Result<I
     Ok(id)
 }
 
-/// Digests a tree of so many entries, checks it and reads its entries.
+/// Digests a tree of this many entries, checks it and reads its entries.
 fn run_in(bench: Bench, order: Order, count: u32) -> io::Result<()> {
     let framed = framed_tree(bench.alloc(), order, count)?;
     let id = digest(bench, order, count, framed.as_slice())?;

@@ -20,10 +20,10 @@ const FILES: u32 = 8;
 /// The bytes of such a directory's file: a header, the object's id, the count, and entries with names of 14 bytes.
 const SIZE: usize = HEADER + 20 + 4 + 8 * (31 + 14);
 
-/// The bytes of a stored file's header, which has the digest of what is behind it.
+/// The bytes of a stored file's header, which has the digest of what is after it.
 const HEADER: usize = 64;
 
-/// What such a file has behind its header.
+/// What such a file has after its header.
 const CONTENT: &[u8; SIZE - HEADER] = &[0x2a; SIZE - HEADER];
 
 const LOADED: Part = Part {
@@ -74,7 +74,7 @@ fn load_all<F: Files<Outside>>(
     loaded
 }
 
-/// Loads all and unloads it, and tells both.
+/// Loads all and unloads it, and prints both.
 fn measure<F: Files<Outside>>(
     bench: Bench,
     table: &mut Table<F>,
@@ -96,8 +96,8 @@ fn measure<F: Files<Outside>>(
     bench.tell(goes, gone, start, count)
 }
 
-/// Stores that content as so many files, and answers how many were stored. Their numbers are those that the directories
-/// have.
+/// Stores that content as this many files, and answers how many were stored. Their numbers are those that the
+/// directories have.
 fn store_all<F: Files<Outside>>(
     alloc: Global,
     overlay: &mut Overlay<Outside, F>,
@@ -147,7 +147,7 @@ fn measure_twice<F: Files<Outside>>(
     )
 }
 
-/// Loads and unloads a root and so many directories in it.
+/// Loads and unloads a root and this many directories in it.
 fn measure_table<F: Files<Outside>>(
     bench: Bench,
     table: &mut Table<F>,
@@ -165,14 +165,14 @@ fn measure_table<F: Files<Outside>>(
     )
 }
 
-/// A root with so many directories over the files that are kept there.
+/// A root with this many directories over the files that are kept there.
 pub fn run<F: Files<Outside>, K: Keeps<F>>(bench: Bench, keeps: &K, count: u32) -> io::Result<()> {
     println!(bench.rt; "{count} directories of {FILES} files, each stored in {SIZE} bytes")?;
     let mut table = table(bench.alloc(), keeps)?;
     measure_table(bench, &mut table, count)
 }
 
-/// So many files of the size of such a directory's, over the files that are kept there.
+/// This many files of the size of such a directory's, over the files that are kept there.
 pub fn run_stores<F: Files<Outside>, K: Keeps<F>>(
     bench: Bench,
     keeps: &K,

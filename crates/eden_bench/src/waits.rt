@@ -1,5 +1,5 @@
 // A look that waits for each directory on its way, and many reads that wait in one directory: how many names are
-// compared, and how long the turns take, where each goes on at its place and where each goes from the root.
+// compared, and how long the turns take, if each continues at its place and if each goes from the root.
 ghost use Rattle.std.specs.Prelude.{◌≡◌};
 ghost use Rattle.eden_ops.specs.Trails.{LeadsFor};
 
@@ -41,7 +41,7 @@ enum Way {
     FromTheRoot,
 }
 
-/// The ways, and what is told of each.
+/// The ways, and what is printed of each.
 const WAYS: &[(Way, &str)] = &[
     (Way::AtItsPlace, "each turn at its place"),
     (Way::FromTheRoot, "each turn from the root"),
@@ -58,7 +58,7 @@ struct Ground {
     compared: u32,
 }
 
-/// A table of a commit of that root. None where there is no memory for a cache.
+/// A table of a commit of that root. None if there is no memory for a cache.
 fn fresh(alloc: Global, root: Id) -> Option<Ground> {
     let overlay = Overlay::new(alloc, MemoryFiles::new(alloc));
     let cache = ObjectCache::new(alloc, 8, CACHE_BYTES, 8).ok()?;
@@ -89,7 +89,7 @@ fn turn(
     attempt
 }
 
-/// Puts a tree in. False where it is none, or where memory is refused.
+/// Puts a tree in. False if it is none, or if memory is refused.
 fn bring(alloc: Global, ground: &mut Ground, framed: &[u8]) -> Result<bool, AllocError>
     ensures { ground.new.table ≡ ground.old.table }
 {
@@ -127,7 +127,7 @@ fn go_down(
     }
 }
 
-/// The trees of a commit from its root on, each with so many entries, of which the first is the next tree.
+/// The trees of a commit from its root on, each with this many entries, of which the first is the next tree.
 fn chain(alloc: Global, count: u32) -> Result<Vec<Vec<u8>>, AllocError> {
     let mut trees = Vec::new(alloc);
     let mut below = ID;
@@ -213,7 +213,7 @@ fn reads(alloc: Global, count: u32) -> Result<Vec<Request>, AllocError> {
     Ok(reads)
 }
 
-/// How long a turn takes where each goes from the root.
+/// How long a turn takes if each goes from the root.
 fn time_from_the_root(
     bench: Bench,
     tree: &mut Tree<MemoryFiles<Outside>>,
@@ -228,7 +228,7 @@ fn time_from_the_root(
     bench.time_each("a turn from the root", start, turns)
 }
 
-/// Room for a mount of all callers. None where memory is refused.
+/// Room for a mount of all callers. None if memory is refused.
 fn room(alloc: Global) -> Option<Room<Global>> {
     let config = Config::new(CALLERS, 1, CALLERS, 1, 1, 1)?;
     Room::new(alloc, alloc, &config).ok()
@@ -252,7 +252,7 @@ fn turn_all(mount: &mut Waiting) {
     }
 }
 
-/// How long a turn takes where each goes on at its pass's place.
+/// How long a turn takes if each continues at its pass's place.
 fn time_at_their_places(bench: Bench, mount: &mut Waiting, reads: Vec<Request>) -> io::Result<()> {
     start_all(mount, reads);
     let start = bench.start();
@@ -278,7 +278,7 @@ fn time_on_a_mount(
     }
 }
 
-/// How long a turn takes from the root, and where each goes on at its place.
+/// How long a turn takes from the root, and if each continues at its place.
 fn time_callers(
     bench: Bench,
     mut tree: Tree<MemoryFiles<Outside>>,
@@ -294,7 +294,7 @@ fn time_callers(
     }
 }
 
-/// Callers that wait for files of one directory with so many.
+/// Callers that wait for files of one directory with this many.
 fn measure_callers(bench: Bench, count: u32) -> io::Result<()> {
     println!(bench.rt; "{CALLERS} callers in a directory of {count} files")?;
     let reads = reads(bench.alloc(), count)?;
@@ -305,7 +305,7 @@ fn measure_callers(bench: Bench, count: u32) -> io::Result<()> {
     }
 }
 
-/// Waits on the way down, and in a directory of so many entries.
+/// Waits on the way down, and in a directory of this many entries.
 pub fn run(bench: Bench, count: u32) -> io::Result<()> {
     let width = count.min(WIDEST);
     println!(bench.rt;

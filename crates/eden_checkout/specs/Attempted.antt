@@ -28,7 +28,7 @@ use Rattle.eden_ops.specs.Looks.{IsLook, IsBeyondLimits}
 use Rattle.eden_checkout.specs.Checkouts.{Checkout}
 
 module _ {W F : Type 0} (w : Ghosts W) (f : Files F W) where
-  -- the clock goes on, and stays at its end
+  -- the clock advances, and stays at its end
   abbrev pub IsTicked : Checkout F → Checkout F → Type 0
   IsTicked s t = t ≡ record s { inodes = record s.inodes { clock = min (s.inodes.clock + 1) (2 ^ 64 - 1) } }
 
@@ -48,8 +48,8 @@ module _ {W F : Type 0} (w : Ghosts W) (f : Files F W) where
     pub inodes : t.inodes ≡ s.inodes
     pub root : t.root ≡ s.root
 
-  -- so many directories went, all of them at and below the path, what is loaded there still is settled, the device failed at
-  -- a store where that is said and nowhere else, and the cache stays as it is
+  -- this many directories went, all of them at and below the path, what is loaded there still is settled, the device failed
+  -- at a store where that is said and nowhere else, and the cache stays as it is
   pub record IsUnloaded (s : Checkout F) (p : Path) (age gone : ℕ) (t : Checkout F) : Type 0 where
     pub count : ℕ
     pub counted : gone ≡ min count (2 ^ 64 - 1)

@@ -25,7 +25,7 @@ OpensAsShown = (root : Id) (F : Stored) (next : ℕ) → HoldsState F (record { 
 abbrev pub FindsAsOverlay : Type 0
 FindsAsOverlay = (root : Id) (F : Stored) (next : ℕ) → IsRescanned root F next → NumbersAreSound F root × IsNextOf F root next
 
--- .. and what it accuses files of, where the outside is honest, so that they aren't sound
+-- .. and what it accuses files of, if the outside is honest, so that they aren't sound
 abbrev pub AccusesAsOverlay : Type 0
 AccusesAsOverlay = (root : Id) (F : Stored) (old new : ℕ) (fault : RescanFault) → IsRefusal opening.Rescan (Unit {0}) root F old new (of_rescan fault)
     → IsRescanFault (Unit {0}) F root old new fault

@@ -80,15 +80,15 @@ pub record IsRescanned (root : Id) (F : Stored) (next : ℕ) : Type 0 where
   pub above : (k : ℕ) → IsSome (F k) → k < next
   pub last : (k : ℕ) × (next ≡ k + 1) × (IsSome (F k) ⊎ ((p : Path) × (files_number root F p ≡ Some k)))
 
--- what is found in files that are opened: the next number, which is that of the state, or where nothing is stored the first
+-- what is found in files that are opened: the next number, which is that of the state, or if nothing is stored the first
 abbrev pub Finds : Opening → Id → Stored → ℕ → Type 0
 Finds opening.Closed root F next = (AreNone F × (next ≡ 2)) ⊎ HoldsState F (record { root = root; next = next })
 Finds opening.Rescan root F next = IsRescanned root F next
 
 -- ---- when they may be opened
 
--- What files keep where that number is given next: no name dangles, they show the tree, and their numbers back the numbers N. None
--- is saved for a directory whose number is yet to be given, and what they list of a directory is what it has.
+-- What files keep if that number is given next: no name dangles, they show the tree, and their numbers back the numbers N. None is
+-- saved for a directory whose number is yet to be given, and what they list of a directory is what it has.
 pub record FilesKeep (R : Repository) (tree : Tree) (N : Numbers) (root : Id) (F : Stored) (next : ℕ) : Type 0 where
   pub sound : AreSound F
   pub shown : files_show R root F ≡ tree
@@ -97,11 +97,11 @@ pub record FilesKeep (R : Repository) (tree : Tree) (N : Numbers) (root : Id) (F
   pub listed : (e : StoredEntry) (es : List StoredEntry) → IsListed root F e → listing_at F e.number e.origin ≡ Some es
       → entries_with R (own_files F) (source_of e.number e.origin) ≡ Some (items_of es)
 
--- what is known of the files where the outside is honest: they keep that, with the next number that is found in them
+-- what is known of the files if the outside is honest: they keep that, with the next number that is found in them
 pub record MayOpen (how : Opening) (R : Repository) (tree : Tree) (N : Numbers) (root : Id) (F : Stored) : Type 0 where
   pub kept : (next : ℕ) → Finds how root F next → FilesKeep R tree N root F next
 
--- .. where they were closed
+-- .. if they were closed
 abbrev pub CanOpen : Repository → Tree → Numbers → Id → Stored → Type 0
 CanOpen R tree N root F = MayOpen opening.Closed R tree N root F
 
@@ -154,7 +154,7 @@ IsTwice root F k = (c : ℕ) × (d : ℕ) × (e : StoredEntry) × (f : StoredEnt
     × (e.number ≡ k) × (f.number ≡ k) × (¬ ((c ≡ d) × (e ≡ f)))
 
 -- The file of an entry that files list is refused, as its own of its kind or as its numbers; or no number is left above that of a
--- file, which is told as a bad body of the root's.
+-- file, which is reported as a bad body of the root's.
 abbrev pub IsDamaged : Id → Stored → ℕ → Refusal → Type 0
 IsDamaged root F k refusal =
     ((e : StoredEntry) × IsListed root F e × (e.number ≡ k) × (e.origin ≡ origin.Own) × ExplainsKind F k e.kind (get.Damaged refusal))
@@ -162,7 +162,7 @@ IsDamaged root F k refusal =
     × ExplainsNumbers tree (F k) (get.Damaged refusal))
     ⊎ HasNoNext F k refusal
 
--- It isn't opened so, for that fault: a rescan tells the first thing that was met from file 1 down. F are the files, and the counts are
+-- It isn't opened so, for that fault: a rescan reports the first thing that was met from file 1 down. F are the files, and the counts are
 -- those of the device's failures before and then.
 abbrev pub IsRefusal : Opening → Type 0 → Id → Stored → ℕ → ℕ → OpenFault → Type 0
 IsRefusal how honest root F old new opens.Device = Rose old new

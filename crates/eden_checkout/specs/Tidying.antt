@@ -39,7 +39,7 @@ LackOrphans F G = (root : Id) → IsClosedOver root F → IsTidiedInPart F root 
 abbrev pub ShowsSame : Stored → Stored → Type 0
 ShowsSame F G = (R : Repository) (root : Id) → files_show R root G ≡ files_show R root F
 
--- .. and are closed where F are
+-- .. and are closed if F are
 abbrev pub StaysClosed : Stored → Stored → Type 0
 StaysClosed F G = (R : Repository) (tree : Tree) (N : Numbers) (root : Id) → CanOpen R tree N root F → CanOpen R tree N root G
 

@@ -55,7 +55,7 @@ impl<A: Allocator + Clone, W: World, F: Files<W>> Checkout<A, W, F> {
     /// many bytes together as the cache may hold, or the last one alone if it is longer. One of over 1 MiB that is read
     /// doesn't: it is read whole once, unless it was stored whole since, and then in the parts that are asked for.
     ///
-    /// Errors: `NotClean` where there are files and no state, `OtherRoot`, `Damaged` of the state alone, `Device` and
+    /// Errors: `NotClean` if there are files and no state, `OtherRoot`, `Damaged` of the state alone, `Device` and
     /// `Memory`. The files come back as they were.
     pub fn open(
         alloc: Global,
@@ -185,8 +185,8 @@ impl<A: Allocator + Clone, W: World, F: Files<W>> Checkout<A, W, F> {
     }
 
     /// What holds of every checkout's files, so also of those that a run leaves without a close: no name in them
-    /// dangles, and where no loaded directory is unsaved they show what the checkout shows, from file 1 down, or the
-    /// commit's tree where there is no file 1.
+    /// dangles, and if no loaded directory is unsaved they show what the checkout shows, from file 1 down, or the
+    /// commit's tree if there is no file 1.
     pub fn holds(&self)
         ensures sound { W.honest → AreSound (F.stored self.now.inodes.files) }
         ensures shown { W.honest → AreSaved self.now.inodes.root

@@ -63,7 +63,7 @@ pub(crate) fn store_state<A: Allocator + Clone, W: World, F: Files<W>>(
     inodes.change(StateStored { alloc, state })
 }
 
-/// A fault of the stored files, as a close tells it.
+/// A fault of the stored files, as a close reports it.
 pub(crate) fn as_files(fault: Fault) -> FilesFault
     ensures { result ≡ as_files fault }
 {

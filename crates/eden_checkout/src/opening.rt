@@ -103,7 +103,7 @@ fn rescanned<W: World, F: Files<W>>(
     }
 }
 
-/// Looks at the files, and removes the state as the last act, where there are files.
+/// Looks at the files, and removes the state as the last act, if there are files.
 pub(crate) fn begin<W: World, F: Files<W>>(
     alloc: Global,
     overlay: &mut Overlay<W, F>,

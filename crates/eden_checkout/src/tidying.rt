@@ -39,8 +39,8 @@ impl From<OpenFault> for TidyFault {
 /// Removes the orphans of an overlay that was closed, or that has no files, over the commit's tree in its state, and
 /// counts them. What is shown is the same, and whatever fails, what was closed is closed.
 ///
-/// It is looked at as a rescan looks, from file 1 down, before anything is removed. Errors: `Open`, with `NotClean`
-/// where there are files and no state, `Damaged`, `Dangling` and `Twice` of the first file that is met, `Device` and
+/// It is looked at as a rescan looks, from file 1 down, before anything is removed. Errors: `Open`, with `NotClean` if
+/// there are files and no state, `Damaged`, `Dangling` and `Twice` of the first file that is met, `Device` and
 /// `Memory`; `Remove` of the device.
 pub fn tidy<W: World, F: Files<W>>(
     alloc: Global,

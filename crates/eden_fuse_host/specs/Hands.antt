@@ -57,7 +57,7 @@ module _ {V O : Type 0} (v : Receiver V) (o : Sender O) (Comes : Coming) (Turns 
     pub session : MessageSession (HandAnswers Turns) (p, taken_by o sender) (p', taken_by o sent) (v.waiting receiver) (v.waiting left) said
     pub looked : HasLooked p p'
 
-  -- so with each of these passes, and the first fault is told
+  -- so with each of these passes, and the first fault is reported
   abbrev pub HaveAttended : List Carried → List Carried → Result ⊤ SessionFault → Type 0
   HaveAttended [] [] told = told ≡ Ok tt
   HaveAttended [] (p' ∷ ps') told = ⊥
@@ -67,7 +67,7 @@ module _ {V O : Type 0} (v : Receiver V) (o : Sender O) (Comes : Coming) (Turns 
 
 module _ {V O : Type 0} (v : Receiver V) (o : Sender O) (Comes : Coming) (honest : Type 0) (opening : Tree) (numbers : Numbers) where
   -- a folder was shown with the last of these passes, and a thread attended to it with each of the others; what wasn't stored at
-  -- the end is told
+  -- the end is reported
   pub record IsServed (m : Manner) (ps ps' : List Carried) (said : Result ⊤ SessionFault) (unstored : Option ℕ) : Type 0 where
     pub pass : Carried
     pub hands : List Carried

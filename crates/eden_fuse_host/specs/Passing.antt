@@ -23,7 +23,7 @@ module _ (honest : Type 0) (opening : Tree) (numbers : Numbers) where
   PassAnswers p q (Ok reply) p' = (n : ℕ) × Grows honest opening numbers p (told_as n q reply) p'
   PassAnswers p q (Err fault) p' = IsLawful honest opening numbers p fault × (p' ≡ p)
 
--- what is heard of a reply: it, or what kept the device from storing where it was that stored files failed
+-- what is heard of a reply: it, or what kept the device from storing if it was that stored files failed
 abbrev pub IsHeardAs : Reply → Result Reply Unheard → Type 0
 IsHeardAs reply (Ok heard) = heard ≡ reply
 IsHeardAs reply (Err why) = (reply ≡ Fault Overlay) × IsUnstored (Err why)

@@ -20,8 +20,8 @@ use Rattle.eden_fuse_host.specs.Lines.{Coming}
 module _ {V O T : Type 0} (v : Receiver V) (o : Sender O) (Comes : Coming) (A : Table T) (honest : Type 0) (opening : Tree)
     (numbers : Numbers) where
   -- What is left of a mount that was opened so and shown: requests were answered in their turns with one pass, looks were made
-  -- with the others, all that waited was stored at the end, or the first error told, and the mount's history is what the passes
-  -- were told. Nothing is pending. Where the outside is honest, the
+  -- with the others, all that waited was stored at the end, or the first error reported, and the mount's history is what the passes
+  -- were told. Nothing is pending. If the outside is honest, the
   -- history is one of the opening tree with its numbers, and the table shows the tree after it, and numbers that back those
   -- that it gave.
   pub record IsLeft (terms : Terms) (m : Manner) (said : Result ⊤ SessionFault) (unstored : Option ℕ) (ended : Core T) : Type 0 where

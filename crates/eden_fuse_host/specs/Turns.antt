@@ -69,7 +69,7 @@ module _ (honest : Type 0) (opening : Tree) (numbers : Numbers) where
     pub answered : Heeds faulted before h a t after
     pub silent : IsSilentIfWanted a t
 
-  -- turns led from there to the end, in which all that waited was stored, or the number of the first error told
+  -- turns led from there to the end, in which all that waited was stored, or the number of the first error reported
   pub record IsShown (b : Beginning) (unstored : Option ℕ) (p' : Carried) : Type 0 where
     pub ended : Showing Carried
     pub run : IsRun b ended

@@ -25,13 +25,13 @@ pub(crate) trait Asking<W: World, J: Naming> {
             (λ a. Grows W.honest W.opening W.numbers pass.old (told_as a.number request a.reply) pass.new)
             (λ fault. IsLawful W.honest W.opening W.numbers pass.old fault × (pass.new ≡ pass.old)) };
 
-    /// Lets go of the loaded directories at and below the path that weren't used for so many turns. How many went.
+    /// Unloads the loaded directories at and below the path that weren't used for this many turns. How many went.
     fn let_go<R: Wait>(&self, rt: &R, path: &Path, older_than: u64) -> u64;
 
     /// What kept the device from storing when it was to store last, whoever asked for that.
     fn obstacle<R: Wait>(&self, rt: &R) -> Option<Obstacle>;
 
-    /// Waits until a loss of power would take nothing that was replied to. False where that isn't known.
+    /// Waits until a loss of power would take nothing that was replied to. False if that isn't known.
     fn sync<R: Wait>(&self, rt: &R) -> bool;
 }
 

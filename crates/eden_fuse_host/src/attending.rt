@@ -66,7 +66,7 @@ fn attend<
     }
 }
 
-/// Answers messages so in a thread of its own. Where none can be made, this thread does.
+/// Answers messages so in a thread of its own. If none can be made, this thread does.
 fn begin<
     's,
     E: 's,
@@ -109,7 +109,7 @@ fn begin<
     }
 }
 
-/// The fault that is told of a session and those after it.
+/// The fault that is reported for a session and those after it.
 fn first_told(
     said: Result<(), SessionFault>,
     later: Result<(), SessionFault>,

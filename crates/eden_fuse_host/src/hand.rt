@@ -89,7 +89,7 @@ impl<'a, W: World, J: Naming, C: Asking<W, J>, S: Source<W> + Drop, D: Answering
         pass
     }
 
-    /// Counts a request, and lets go of directories where it is time to.
+    /// Counts a request, and unloads directories if it is time to.
     fn unload(&mut self)
         ensures { self.new ≡ self.old }
     {

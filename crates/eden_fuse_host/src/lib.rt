@@ -7,9 +7,9 @@
 //! nothing. If a look meets a fault, a request that can't do without it is answered with `EIO` and does nothing. What
 //! interrupts another is passed over. Messages are received, read and answered without that lock too.
 //!
-//! Of each thread is told that it had a line with all its messages, that each message that it received had its turn,
-//! after others of this folder, and that what was said in it is what was sent. Which turns of the folder were whose
-//! isn't told; that others go on while a thread waits for an object, and that threads end, is shown by tests.
+//! Contracts say of each thread that it had a line with all its messages, that each message that it received had its
+//! turn, after others of this folder, and that what was said in it is what was sent. They don't say which turns of the
+//! folder were whose; that others continue while a thread waits for an object, and that threads end, is shown by tests.
 #![tactic(auto)]
 
 mod answering;

@@ -22,7 +22,7 @@ use std::sync::{Mutex, Wait};
 use std::thread::Threads;
 
 /// Shows a folder by one pass for its turns, and a thread for each of the others, until no more messages come; then all
-/// that waits is stored, or the number of the first error told.
+/// that waits is stored, or the number of the first error reported.
 fn show<
     B: Begun + Send,
     W: World + Send,

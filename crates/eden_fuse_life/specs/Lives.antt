@@ -29,7 +29,7 @@ use Rattle.eden_fuse_life.specs.declared.fault.FolderFault.{FolderFault}
 use Rattle.eden_fuse_life.specs.declared.fault.FolderFault.TheVariants as life
 use Rattle.eden_fuse_life.specs.declared.life.FolderEnding.{FolderEnding}
 
--- the session's fault is told before the error of the last stores, and that before the close's fault
+-- the session's fault is reported before the error of the last stores, and that before the close's fault
 abbrev pub first_folder_fault : Result ⊤ SessionFault → Option ℕ → Option FilesFault → Result ⊤ FolderFault
 first_folder_fault (Err fault) unstored unclosed = Err (life.Session fault)
 first_folder_fault (Ok _) (Some errno) unclosed = Err (life.Unstored errno)
@@ -37,14 +37,14 @@ first_folder_fault (Ok _) None (Some fault) = Err (life.Close fault)
 first_folder_fault (Ok _) None None = Ok tt
 
 module _ {W F : Type 0} (w : Ghosts W) (f : Files F W) where
-  -- a served folder's checkout was closed, and the first fault told
+  -- a served folder's checkout was closed, and the first fault reported
   pub record EndsFolder {S : Type 0} (root : Id) (t : Checkout F) (tree : Tree) (N : Numbers) (source : S) (said : Result ⊤ SessionFault)
       (left : FolderEnding F S) : Type 0 where
     pub files : Closes w f root t tree N left.unclosed left.backing.files
     pub source_left : left.backing.source ≡ source
     pub told : left.outcome ≡ first_folder_fault said left.unstored left.unclosed
 
-  -- the history copies replies or doesn't, and may become so long
+  -- the history copies replies or doesn't, and may become this long
   module _ {S : Type 0} (fetched : S → Id → Answer → S → Type 0) (copies : Bool) (limit : ℕ) where
     -- The overlay wasn't opened, for that fault: nothing was received or sent, and the source wasn't asked.
     pub record IsUnshown (base : Base) (backing : Backing F S) (line line' : Line) (waiting unread : Known) (why : OpenFault)
@@ -56,9 +56,9 @@ module _ {W F : Type 0} (w : Ghosts W) (f : Files F W) where
       pub unstored : left.unstored ≡ None
       pub unclosed : left.unclosed ≡ None
 
-    -- The overlay was opened, the folder served, all that waited stored, or the first error told, and the overlay closed, however the
-    -- session ended. The files are the same commit's. Where the outside is honest, the history is one of the opening tree with its
-    -- numbers, what the files show is the tree after it, and where they were closed they back the numbers that it gave.
+    -- The overlay was opened, the folder served, all that waited stored, or the first error reported, and the overlay closed, however
+    -- the session ended. The files are the same commit's. If the outside is honest, the history is one of the opening tree with its
+    -- numbers, what the files show is the tree after it, and if they were closed they back the numbers that it gave.
     pub record IsShown (base : Base) (settings : Settings) (backing : Backing F S) (m : Manner) (line line' : Line) (waiting unread : Known)
         (left : FolderEnding F S) : Type 0 where
       pub begun : Showing (Desk (Checkout F) S)

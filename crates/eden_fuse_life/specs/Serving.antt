@@ -26,8 +26,8 @@ line_of sender c = (sender.sent c, sender.failures c)
 
 module _ {W : Type 0} (w : Ghosts W) {S : Type 0} (fetched : S → Id → Answer → S → Type 0) {T : Type 0} (A : Table T) (copies : Bool) (limit : ℕ) where
   -- The folder was shown: each message that was received had its turn, by what the mount replied, and then all that waited was
-  -- stored, or the first error told. What the mount was opened with stays. Where the outside is honest, its history is one of the
-  -- opening tree with its numbers, and the table shows the tree after it, and numbers that back those that it gave.
+  -- stored, or the first error reported. What the mount was opened with stays. If the outside is honest, its history is one of
+  -- the opening tree with its numbers, and the table shows the tree after it, and numbers that back those that it gave.
   pub record ServesFolder (m : Manner) (r : Room) (t : T) (s : S) (line line' : Line) (waiting left : Known)
       (x : ServedFolder T S) : Type 0 where
     pub begun : Showing (Desk T S)

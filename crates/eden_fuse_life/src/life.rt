@@ -25,10 +25,10 @@ use std::rt::Clock;
 pub struct FolderEnding<F, S> {
     /// The files as they stand, and the source as its last answer left it.
     pub backing: Backing<F, S>,
-    /// The number of the first error upon which what was written last wasn't stored, if not all of it was; told too
-    /// where the session's fault came first.
+    /// The number of the first error upon which what was written last wasn't stored, if not all of it was; reported too
+    /// if the session's fault came first.
     pub unstored: Option<u32>,
-    /// Why the overlay wasn't closed, if it was open and wasn't closed; told too where another fault came first.
+    /// Why the overlay wasn't closed, if it was open and wasn't closed; reported too if another fault came first.
     pub unclosed: Option<FilesFault>,
     /// The first fault of opening, session, the last stores and close.
     pub outcome: Result<(), FolderFault>,
@@ -54,8 +54,8 @@ fn first_fault(
     }
 }
 
-/// Closes the checkout of a served folder, however the session ended, and whether or not all that waited was stored.
-/// Where that fails, the files are left as they stand.
+/// Closes the checkout of a served folder, however the session ended, and whether or not all that waited was stored. If
+/// that fails, the files are left as they stand.
 fn end<W: World, S: Drop, A: Allocator + Clone, F: Files<W>>(
     alloc: Global,
     served: ServedFolder<Checkout<A, W, F>, S>,
@@ -82,14 +82,14 @@ fn end<W: World, S: Drop, A: Allocator + Clone, F: Files<W>>(
 
 /// Opens an overlay over a commit's tree, answers each of the kernel's messages over it, and closes it.
 ///
-/// The session ends where no more messages come, as after an unmount. Then all that waits is stored. The overlay is
-/// closed after a session's fault too, and where not all was stored; only where the close fails are the files left
-/// without their state. What the mount replied are the replies of the commit's whole tree, changed by one request after
-/// another, with the inode numbers that a `stat` may tell; files that were closed show the tree after them, and back
+/// The session ends when no more messages come, as after an unmount. Then all that waits is stored. The overlay is
+/// closed after a session's fault too, and if not all was stored; only if the close fails are the files left without
+/// their state. What the mount replied are the replies of the commit's whole tree, changed by one request after
+/// another, with the inode numbers that a `stat` may return; files that were closed show the tree after them, and back
 /// those numbers.
 ///
-/// Errors are told in `outcome`, the first in the order opening, session, last stores, close. That something wasn't
-/// stored is told in `unstored` whatever came first. Where the overlay isn't opened, nothing is received or sent.
+/// Errors are reported in `outcome`, the first in the order opening, session, last stores, close. That something wasn't
+/// stored is reported in `unstored` whatever came first. If the overlay isn't opened, nothing is received or sent.
 pub fn live_folder<
     W: World,
     S: Source<W> + Drop,

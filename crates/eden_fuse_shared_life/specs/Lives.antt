@@ -35,8 +35,8 @@ module _ {W F : Type 0} (w : Ghosts W) (f : Files F W) where
   abbrev pub ClosesAs : Checkout F → SharedFolderEnding F → Type 0
   ClosesAs t left = (N : Numbers) → IsBacking w f N t → Closes w f t.root t (shows w f t.inodes) N left.unclosed left.files
 
-  -- an open checkout was closed, and the first fault told, beside what the last stores came to: it was shown, or there was no memory
-  -- to share it
+  -- an open checkout was closed, and the first fault reported, beside what the last stores came to: it was shown, or there was no
+  -- memory to share it
   abbrev pub Ends : Result (FolderTable (Checkout F)) (Checkout F) → SharedFolderEnding F → Type 0
   Ends (Ok x) left = ClosesAs x.table left × (left.unstored ≡ x.unstored) × (left.outcome ≡ first_folder_fault x.said x.unstored left.unclosed)
   Ends (Err t) left = ClosesAs t left × (left.unstored ≡ None) × (left.outcome ≡ Err (life.Open opens.Memory))
@@ -47,7 +47,7 @@ module _ {W F : Type 0} (w : Ghosts W) (f : Files F W) where
     pub unstored : left.unstored ≡ None
     pub unclosed : left.unclosed ≡ None
 
-  -- The overlay was opened, and closed again, since there was no memory to share it. Where the outside is honest, it shows
+  -- The overlay was opened, and closed again, since there was no memory to share it. If the outside is honest, it shows
   -- the opening tree still, and backs the opening numbers.
   pub record IsUnshared (base : Base) (settings : Settings) (files : F) (why : OpenFault) (left : SharedFolderEnding F) : Type 0 where
     pub memory : why ≡ opens.Memory
@@ -56,11 +56,11 @@ module _ {W F : Type 0} (w : Ghosts W) (f : Files F W) where
     pub opened : IsOpened w f base settings files begun
     pub closed : Closes w f base.root begun w.opening w.numbers left.unclosed left.files
 
-  -- lines give such messages, and the history may become so long
+  -- lines give such messages, and the history may become this long
   module _ {V O : Type 0} (v : Receiver V) (o : Sender O) (Comes : Coming) (limit : ℕ) where
-    -- The overlay was opened, the folder served, all that waited stored, or the first error told, and the overlay closed, however the
-    -- session ended. The files are the same commit's, and no inode number was given again. Where the outside is honest, what they show
-    -- is the tree after what the folder's passes were told, and where they were closed they back the numbers that were told.
+    -- The overlay was opened, the folder served, all that waited stored, or the first error reported, and the overlay closed, however
+    -- the session ended. The files are the same commit's, and no inode number was given again. If the outside is honest, what they
+    -- show is the tree after what the folder's passes were told, and if they were closed they back the numbers that were told.
     pub record IsShown (base : Base) (settings : Settings) (m : Manner) (files : F) (left : SharedFolderEnding F) : Type 0 where
       pub begun : Checkout F
       pub opened : IsOpened w f base settings files begun

@@ -29,10 +29,10 @@ use std::thread::Threads;
 pub struct SharedFolderEnding<F> {
     /// The files as they stand.
     pub files: F,
-    /// The number of the first error upon which what was written last wasn't stored, if not all of it was; told too
-    /// where the session's fault came first.
+    /// The number of the first error upon which what was written last wasn't stored, if not all of it was; reported too
+    /// if the session's fault came first.
     pub unstored: Option<u32>,
-    /// Why the overlay wasn't closed, if it was open and wasn't closed; told too where another fault came first.
+    /// Why the overlay wasn't closed, if it was open and wasn't closed; reported too if another fault came first.
     pub unclosed: Option<FilesFault>,
     /// The first fault of opening, session, the last stores and close.
     pub outcome: Result<(), FolderFault>,
@@ -165,14 +165,14 @@ fn live_tied<
 ///
 /// Messages have their turns one after another, and none waits for an object that another message needs, unless the
 /// object went again between a look and its turn, or the other message is a rename, and a directory above its old path
-/// went from memory after that was looked up. The session ends where no more messages come, as after an unmount:
-/// then all that waits is stored, and the overlay is closed, after a session's fault too, and where not all was stored,
-/// with the same commit and the next inode number that was reached. Only where the close fails are the files left
+/// went from memory after that was looked up. The session ends when no more messages come, as after an unmount:
+/// then all that waits is stored, and the overlay is closed, after a session's fault too, and if not all was stored,
+/// with the same commit and the next inode number that was reached. Only if the close fails are the files left
 /// without their state.
 ///
-/// Errors are told in `outcome`, the first in the order opening, session, last stores, close. That something wasn't
-/// stored is told in `unstored` whatever came first. Where the overlay isn't opened, or there is no memory to share it,
-/// no line is asked for.
+/// Errors are reported in `outcome`, the first in the order opening, session, last stores, close. That something wasn't
+/// stored is reported in `unstored` whatever came first. If the overlay isn't opened, or there is no memory to share
+/// it, no line is asked for.
 pub fn live_shared_folder<
     W: World + Send,
     F: Files<W> + Send,

@@ -12,7 +12,7 @@ use Rattle.eden_host.specs.declared.fault.HostFault.{HostFault}
 use Rattle.eden_host.specs.declared.fault.HostFault.TheVariants as host
 use Rattle.eden_host.specs.Guests.{GuestAnswers}
 
--- the fault of listening is told before that of a session, and that of a session before those of later ones
+-- the fault of listening is reported before that of a session, and that of a session before those of later ones
 abbrev pub first_host_fault : Result ⊤ SessionFault → Result ⊤ HostFault → Result ⊤ HostFault
 first_host_fault said (Err host.Listen) = Err host.Listen
 first_host_fault (Err fault) (Err (host.Session later)) = Err (host.Session fault)
@@ -20,13 +20,13 @@ first_host_fault (Ok _) (Err (host.Session later)) = Err (host.Session later)
 first_host_fault (Err fault) (Ok _) = Err (host.Session fault)
 first_host_fault (Ok _) (Ok _) = Ok tt
 
--- what a pass's session and the passes after it come to: where it had no session, what those come to
+-- what a pass's session and the passes after it come to: if it had no session, what those come to
 abbrev pub gathered : Option (Result ⊤ SessionFault) → Option (Result ⊤ HostFault) → Option (Result ⊤ HostFault)
 gathered None later = later
 gathered (Some said) None = Some (first_host_fault said (Ok tt))
 gathered (Some said) (Some later) = Some (first_host_fault said later)
 
--- what is told of all passes: where none had a session, want of memory
+-- what is reported of all passes: if none had a session, want of memory
 abbrev pub outcome_of : Option (Result ⊤ HostFault) → Result ⊤ HostFault
 outcome_of None = Err (host.Session Memory)
 outcome_of (Some outcome) = outcome
@@ -45,8 +45,8 @@ module _ {I O : Type 0} (i : Read I) (o : Write O) (honest : Type 0) (opening : 
   IsSeated p p' None = p' ≡ p
   IsSeated p p' (Some said) = (reader : I) × (writer : O) × IsAttended p p' reader writer said
 
-  -- each pass in turn had its session or none, and the first fault is told; or from one on they stayed as they were, since
-  -- listening failed
+  -- each pass in turn had its session or none, and the first fault is reported; or from one on they stayed as they were,
+  -- since listening failed
   abbrev pub AreAttended : List Carried → List Carried → Option (Result ⊤ HostFault) → Type 0
   AreAttended [] [] outcome = outcome ≡ None
   AreAttended [] (p' ∷ ps') outcome = ⊥
@@ -56,6 +56,6 @@ module _ {I O : Type 0} (i : Read I) (o : Write O) (honest : Type 0) (opening : 
       × AreAttended ps ps' later × (outcome ≡ gathered said later))
       ⊎ ((p' ≡ p) × (ps' ≡ ps) × (outcome ≡ Some (Err host.Listen)))
 
-  -- .. and that is told of all
+  -- .. and that is reported of all
   abbrev pub AreHosted : List Carried → List Carried → Result ⊤ HostFault → Type 0
   AreHosted ps ps' outcome = (sessions : Option (Result ⊤ HostFault)) × AreAttended ps ps' sessions × (outcome ≡ outcome_of sessions)

@@ -23,8 +23,8 @@ terms_at A room limit table = terms_of A (core_from table room.queue room.seats 
 
 module _ {T I O : Type 0} (A : Table T) (i : Read I) (o : Write O) (honest : Type 0) (opening : Tree) (numbers : Numbers) where
   -- What is left of a mount that was opened so and shared: guests were hosted with its passes, and the mount's history is what
-  -- they were told. Nothing is pending. Where the outside is honest, the history is one of the opening tree with its numbers,
-  -- and the table shows the tree after it, and numbers that back those that it gave.
+  -- they were told. Nothing is pending. If the outside is honest, the history is one of the opening tree with its numbers, and
+  -- the table shows the tree after it, and numbers that back those that it gave.
   pub record IsLeft (terms : Terms) (outcome : Result ⊤ HostFault) (ended : Core T) : Type 0 where
     pub left : List Carried
     pub hosted : AreHosted i o honest opening numbers (newcomers terms 1 terms.passes) left outcome

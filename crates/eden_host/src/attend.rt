@@ -22,8 +22,8 @@ use std::sync::Wait;
 use std::sync::atomic::{AtomicUsize, Ordering};
 use std::thread::{self, Promise, PromisedHandle, Scope, Threads};
 
-/// A guest's pass after its session, and how the session ended. None where there was none, since no thread could be
-/// made for it.
+/// A guest's pass after its session, and how the session ended. None if there was none, since no thread could be made
+/// for it.
 #[derive(Drop)]
 pub(crate) struct Attended<J: Naming> {
     pass: Pass<J>,
@@ -63,7 +63,7 @@ fn attend<W: World, J: Naming, I: Read + Drop, O: Write + Drop, C: Served<W, J>,
     }
 }
 
-/// Begins a session over a connection in a thread of its own. Where none can be made the connection is closed, and the
+/// Begins a session over a connection in a thread of its own. If none can be made the connection is closed, and the
 /// pass comes back as it was.
 ///
 /// `place` is a number of this session alone, and `closed` is 0 or that of a session that was given no thread.
@@ -96,7 +96,7 @@ fn begin<
         pass: Snapshot::of(&pass),
         connection: PhantomData,
     };
-    // What was to run in the thread comes back where none can be made, and then does no more than give the pass back.
+    // What was to run in the thread comes back if none can be made, and then does no more than give the pass back.
     let attend_guest = move || -> Attended<J>
         requires { HasLearntNothing pass }
         ensures { IsSeated I.Read O.Write W.honest W.opening W.numbers pass result.pass result.said }
@@ -116,7 +116,7 @@ fn begin<
     }
 }
 
-/// The fault that is told of a session and those after it: that listening failed, or else the first session's.
+/// The fault that is reported for a session and those after it: that listening failed, or else the first session's.
 fn first_fault(
     said: Result<(), SessionFault>,
     later: Result<(), HostFault>,
@@ -144,15 +144,15 @@ fn gathered(
     }
 }
 
-/// What is told of all passes.
+/// What is reported of all passes.
 fn outcome_of(sessions: Option<Result<(), HostFault>>) -> Result<(), HostFault>
     ensures { result ≡ outcome_of sessions }
 {
     sessions.unwrap_or(Err(HostFault::Session(SessionFault::Memory)))
 }
 
-/// Takes a connection for each pass, and answers each in a thread of its own, or closes it where none can be made. The
-/// passes after their sessions, and the first fault, where there was a session. After a failed `accept` no more
+/// Takes a connection for each pass, and answers each in a thread of its own, or closes it if none can be made. The
+/// passes after their sessions, and the first fault, if there was a session. After a failed `accept` no more
 /// connections are taken.
 fn attend_each<
     's,

@@ -4,7 +4,7 @@ ghost use Rattle.std.specs.Prelude.{◌≡◌, ◌≤◌, length};
 use std::marker::Model;
 
 /// The sources that a mount's objects are fetched from, each in a thread of its own. There is at least one: a request
-/// that needs an object would wait for ever where nobody fetches.
+/// that needs an object would wait for ever if nobody fetches.
 ///
 /// Contracts see the sources.
 #[derive(Drop)]

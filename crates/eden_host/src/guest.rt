@@ -79,7 +79,7 @@ impl<'a, W: World, J: Naming, C: Served<W, J>, R: Wait> Guest<'a, W, J, C, R> {
         }
     }
 
-    /// Counts a request that was served, and lets go of directories where it is time to.
+    /// Counts a request that was served, and unloads directories if it is time to.
     fn unload(&mut self)
         ensures { self.new ≡ self.old }
     {

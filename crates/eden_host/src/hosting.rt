@@ -29,14 +29,14 @@ use std::thread::{self, Scope, Threads};
 /// What is left of a mount that was served to many.
 #[derive(Drop)]
 pub struct Hosted<W: World, T: Attempts<W> + Drop, A: Allocator, J: Naming, H: History> {
-    /// The mount, with nothing pending, where the passes were those of the shared mount.
+    /// The mount, with nothing pending, if the passes were those of the shared mount.
     pub mount: Result<Mount<W, T, A, H>, Torn<W, T, A, J, H>>,
     /// The first fault of listening or of a session.
     pub outcome: Result<(), HostFault>,
 }
 
-/// Fetches from each source in a thread of its own, where one can be made, until nothing will be wanted any more.
-/// Whether anybody fetches.
+/// Fetches from each source in a thread of its own, if one can be made, until nothing will be wanted any more. Whether
+/// anybody fetches.
 fn fetch_from_all<
     's,
     E: 's,
@@ -68,8 +68,8 @@ fn begin<J: Naming>(passes: &Vec<Pass<J>>)
 ///
 /// A client that sends nothing, never reads or goes away costs its own session alone. One for which no thread can be
 /// made has its connection closed, and no session. After the last session the mount is stopped, the fetchers end, and
-/// the mount comes back, as its passes were told. Where no thread can be made for any fetcher no session begins; where
-/// none began, the outcome is want of memory.
+/// the mount comes back, as its passes were told. If no thread can be made for any fetcher no session begins; if none
+/// began, the outcome is want of memory.
 pub fn host<
     W: World + Send,
     T: Attempts<W> + Send + Drop,
@@ -111,7 +111,7 @@ where
     }
 }
 
-/// Serves the sessions, where somebody fetches for them; else none begins.
+/// Serves the sessions, if somebody fetches for them; else none begins.
 fn attend_fetched<
     W: World + Send,
     J: Naming + Send,

@@ -7,7 +7,7 @@ use std::net::Net;
 
 impl<N: Net + Print + Eprint + Drop, F: Files + Drop> Accepts<Stream<N::Stream>, Stream<N::Stream>>
     for Listener<N, F> {
-    /// None where the address can't be bound or told, or no connection can be taken.
+    /// None if the address can't be bound or told, or no connection can be taken.
     fn accept(&mut self) -> Option<(Stream<N::Stream>, Stream<N::Stream>)> {
         self.next_connection().ok()
     }

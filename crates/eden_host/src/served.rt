@@ -24,13 +24,13 @@ pub trait Served<W: World, J: Naming> {
             (λ a. Grows W.honest W.opening W.numbers pass.old (told_as a.number request a.reply) pass.new)
             (λ fault. IsLawful W.honest W.opening W.numbers pass.old fault × (pass.new ≡ pass.old)) };
 
-    /// Lets go of the loaded directories at and below the path that weren't used for so many turns. How many went.
+    /// Unloads the loaded directories at and below the path that weren't used for this many turns. How many went.
     fn let_go<R: Wait>(&self, rt: &R, path: &Path, older_than: u64) -> u64;
 
     /// Fetches what callers wait for, until calls have ended and nothing is pending.
     fn fetch_wanted<S: Source<W>, R: Wait>(&self, rt: &R, source: &mut S);
 
-    /// From now on new calls are answered `Stopped`; those that are pending go on.
+    /// From now on new calls are answered `Stopped`; those that are pending continue.
     fn end_calls<R: Wait>(&self, rt: &R);
 }
 

@@ -13,7 +13,7 @@ use Rattle.eden_mount.specs.declared.settling.Settled.TheVariants.{Found, Waits}
 use Rattle.eden_mount.specs.Tables.{Table, Ticks, Finishes, Needs}
 
 module _ {T : Type 0} (A : Table T) (honest : Type 0) where
-  -- the reply of a request whose pass had that mark, where the history copies replies or doesn't
+  -- the reply of a request whose pass had that mark, whether the history copies replies or not
   pub data Replied (copies : Bool) (t : T) (q : Request) (mark : Option Mark) (r : Reply) (u : T) : Type 0 where
     -- the attempt's
     attempted : Finishes A honest t q r u → Replied copies t q mark r u

@@ -54,7 +54,7 @@ pub record IsAtRest {T : Type 0} (m : Core T) : Type 0 where
   pub quiet : IsQuiet m
   pub free : seat_of 1 m ≡ None
 
--- the caller has its request pending, and goes on with it by itself
+-- the caller has its request pending, and continues with it by itself
 pub record IsDriven {T : Type 0} (A : Table T) (q : Request) (m : Core T) : Type 0 where
   pub kept : IsQueue m.queue
   pub quiet : IsQuiet m
@@ -96,7 +96,7 @@ pub record IsTold {T : Type 0} (A : Table T) (honest : Type 0) (copies : Bool) (
   pub mark : Option Mark
   pub told : ToldBy A honest copies before q mark r u
 
--- loaded directories that nobody uses were let go, or nothing was
+-- loaded directories that nobody uses were unloaded, or nothing was
 abbrev pub MayEvict : {T : Type 0} → Table T → Type 0 → T → T → Type 0
 MayEvict A honest t u = (u ≡ t) ⊎ ((p : Path) × (age : ℕ) × (gone : ℕ) × Unloads A honest t p age gone u)
 
@@ -137,7 +137,7 @@ module _ {S : Type 0} (fetched : S → Id → Answer → S → Type 0) {T : Type
 
   -- A request was served: the source was asked for at most one object for each place on its paths, the history has its
   -- entry, a fault has its cause in what the caller's own turns made of the table, and a fetch fault is of an object that was
-  -- asked for and failed. After the last turn directories may be let go.
+  -- asked for and failed. After the last turn directories may be unloaded.
   pub record Serves (honest : Type 0) (copies : Bool) (q : Request) (m : Core T) (s : S) (r : Reply) (m' : Core T) (t : S) : Type 0 where
     pub asks : List Asked
     pub asked : Fetches fetched s (heard asks) t

@@ -70,8 +70,8 @@ told_in_run f (e ∷ es) (o ∷ os) = then_told f e o ++ told_in_run (then_asked
 
 -- ---- answers
 
--- Each event has an answer of its kind. A start is refused as unknown where there is none of n such passes, and as busy
--- where a request is pending; a turn is idle exactly where none is.
+-- Each event has an answer of its kind. A start is refused as unknown if there is none of n such passes, and as busy if
+-- a request is pending; a turn is idle exactly if none is.
 abbrev pub IsAnswered : ℕ → (ℕ → Option Request) → Event → Outcome → Type 0
 IsAnswered n f (event.Start c q) (outcome.Start (Ok u)) = (1 ≤ c) × (c ≤ n) × (f c ≡ None)
 IsAnswered n f (event.Start c q) (outcome.Start (Err NoPass)) = ¬ ((1 ≤ c) × (c ≤ n))

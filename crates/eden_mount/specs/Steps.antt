@@ -36,9 +36,9 @@ Starts m c q (Err f) m' = IsRefused m c f × (m' ≡ m)
 
 -- ---- turn
 
--- Where `copies` is true, the history has a copy of each reply, for which there may be no memory.
+-- If `copies` is true, the history has a copy of each reply, for which there may be no memory.
 module _ {T : Type 0} (A : Table T) (honest : Type 0) where
-  -- nothing is pending: the clock goes on, and nothing else changes
+  -- nothing is pending: the clock advances, and nothing else changes
   abbrev pub IsIdle : Core T → ℕ → Core T → Type 0
   IsIdle m c m' = ((s : Pending) → ¬ Pends c s m) × Ticks A m.table m'.table × (m' ≡ record m { table = m'.table })
 
@@ -58,7 +58,7 @@ module _ {T : Type 0} (A : Table T) (honest : Type 0) where
   Turns copies m c (Wait k) m' = IsWaiting m c k m'
   Turns copies m c Idle m' = IsIdle m c m'
 
-  -- a turn of a pass with a request pending, whose clock went on before
+  -- a turn of a pass with a request pending, whose clock advanced before
   abbrev pub GoesOn : Bool → Core T → ℕ → Turned → Core T → Type 0
   GoesOn copies m c (Done n r) m' = (s : Pending) × Pends c s m × (n ≡ length m.history + 1)
       × (m' ≡ after_done c s.request r m'.table m)

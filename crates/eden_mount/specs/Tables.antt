@@ -20,7 +20,7 @@ use Rattle.eden_model.specs.declared.attempt.Attempt.TheVariants as ended
 pub record Table (T : Type 0) : Type 1 where
   -- the tree that it shows
   pub shown : T → Tree
-  -- the inode number that it shows at each path, where it shows one
+  -- the inode number that it shows at each path, if it shows one
   pub numbers : T → Numbering
   -- the commit that it is a checkout of, by the id of its tree
   pub commit : T → Id
@@ -30,7 +30,7 @@ pub record Table (T : Type 0) : Type 1 where
   pub caches : T → Key → Bool
   -- the request's checks, in their order, end at what that object alone gives, and the cache lacks it
   pub needs : T → Request → Key → Type 0
-  -- how many objects the request may still need, where none leaves the cache
+  -- how many objects the request may still need, if none leaves the cache
   pub left : T → Request → ℕ
   -- what the table itself says of a tick
   pub ticked : T → T → Type 0
@@ -38,7 +38,7 @@ pub record Table (T : Type 0) : Type 1 where
   pub tried : T → Request → Attempt → T → Type 0
   -- .. of an object that it keeps
   pub kept : T → Key → Body → T → Type 0
-  -- .. of an unload of a path, by age, in which so many directories went
+  -- .. of an unload of a path, by age, in which this many directories went
   pub unloaded : T → Path → ℕ → ℕ → T → Type 0
   -- .. of a sync, and whether it went
   pub synced : T → Bool → T → Type 0
@@ -71,8 +71,8 @@ module _ {T : Type 0} (A : Table T) where
       × Stores t k (record { kind = k.kind; bytes = body }) u
 
 module _ {T : Type 0} (A : Table T) (honest : Type 0) where
-  -- An attempt ended with the reply: the table of operations' one, or a fault, and the tree is the one after it. What is shown
-  -- of numbers is changed as the request changes it, once it is done, and a `stat` told the one shown; a fault only gains some.
+  -- An attempt ended with the reply: the table of operations' one, or a fault, and the tree is the one after it. What is shown of
+  -- numbers is changed as the request changes it, once it is done, and a `stat` returned the one shown; a fault only gains some.
   pub record Finishes (t : T) (q : Request) (r : Reply) (u : T) : Type 0 where
     pub tried : A.tried t q (ended.Finished r) u
     pub reply : honest → fault_of r ≡ None → Replies (A.shown t) q r
@@ -103,7 +103,7 @@ module _ {T : Type 0} (A : Table T) (honest : Type 0) where
   Tries t q (ended.Finished r) u = Finishes t q r u
   Tries t q (ended.Need k) u = Needs t q k u
 
-  -- so many directories went, each number is shown still, and no object left the cache
+  -- this many directories went, each number is shown still, and no object left the cache
   pub record Unloads (t : T) (p : Path) (age gone : ℕ) (u : T) : Type 0 where
     pub unloaded : A.unloaded t p age gone u
     pub tree : honest → A.shown u ≡ A.shown t

@@ -11,7 +11,7 @@ pub trait Attempts<W: World> {
     ghost use Rattle.eden_mount.specs.Places.{LeadStill};
     ghost use Rattle.eden_mount.specs.Tables.{Table, Tries, Ticks, Stores, Unloads, Syncs};
 
-    /// Where an attempt waits, so that the next one of the same request goes on there.
+    /// Where an attempt waits, so that the next one of the same request continues there.
     type Place: Drop;
 
     /// What contracts know of it.
@@ -30,7 +30,7 @@ pub trait Attempts<W: World> {
 
     /// One attempt: it finishes, or needs an object. What it finds in the cache or the stored files it may load.
     ///
-    /// It may go on at a place that leads along a path of the request, and leaves there where it waits, if it does.
+    /// It may continue at a place that leads along a path of the request, and leaves there where it waits, if it does.
     fn attempt(
         &mut self,
         alloc: Global,
@@ -49,17 +49,17 @@ pub trait Attempts<W: World> {
         ensures err { OnErr result (self.new ≡ self.old) }
         ensures places { LeadStill leads self.old self.new };
 
-    /// Lets go of the loaded directories at and below the path that weren't used for so many turns. How many went.
+    /// Unloads the loaded directories at and below the path that weren't used for this many turns. How many went.
     fn unload(&mut self, alloc: Global, path: &Path, older_than: u64) -> u64
         ensures unloads { Unloads table W.honest self.old path.now older_than result self.new }
         ensures places { LeadStill leads self.old self.new };
 
-    /// What kept the device from storing when it was to store last; None where it stored, or didn't say. Contracts
-    /// promise nothing of it.
+    /// What kept the device from storing when it was to store last; None if it stored, or didn't say. Contracts promise
+    /// nothing of it.
     fn obstacle(&self) -> Option<Obstacle>;
 
-    /// Waits until a loss of power would take nothing of what is stored. False where the device failed, or where there
-    /// was no memory: then that isn't known.
+    /// Waits until a loss of power would take nothing of what is stored. False if the device failed, or if there was no
+    /// memory: then that isn't known.
     fn sync(&mut self, alloc: Global) -> bool
         ensures syncs { Syncs table W.honest self.old result self.new }
         ensures places { LeadStill leads self.old self.new };

@@ -34,7 +34,7 @@ impl Config {
     /// how many objects are cached, 1 to 65,536, of how many bytes together, 1 to 2^40; and how many sizes, 1 to
     /// 65,536.
     ///
-    /// None exactly where one of them is outside its limits.
+    /// None exactly if one of them is outside its limits.
     pub fn new(
         passes: u32,
         flights: u32,

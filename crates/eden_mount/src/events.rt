@@ -27,15 +27,15 @@ pub enum Arrived {
 pub enum Event {
     /// A pass asks a request.
     Start(u32, Request),
-    /// A pass goes on with its request.
+    /// A pass continues with its request.
     Turn(u32),
     /// Somebody takes a key to fetch.
     Take,
     /// Framed bytes come for a key.
     Arrive(Key, Bytes),
-    /// A key can't be had.
+    /// A key is unavailable.
     Fail(Key, Cause),
-    /// Loaded directories go: at and below the path, not used for so many turns.
+    /// Loaded directories go: at and below the path, not used for this many turns.
     Unload(Path, u64),
     /// Somebody waits until a loss of power would take nothing of what is stored.
     Sync,

@@ -1,9 +1,9 @@
 //! A mount's core: requests of many passes over one table of inodes, changed by one event at a time.
 //!
 //! An event is a start, a turn, a taken key, an arrival, a failed fetch, an unload or a sync. Each call is one of them,
-//! and one step of what contracts see (`specs/Steps.antt`); `Mount::run` says what follows for whole lists of them.
-//! Where the outside is honest, the history is legal whatever the events are. Nothing here fetches or waits for
-//! anybody, but `Local`, which is one caller with a source of its own.
+//! and one step of what contracts see (`specs/Steps.antt`); `Mount::run` says what follows for whole lists of them. If
+//! the outside is honest, the history is legal whatever the events are. Nothing here fetches or waits for anybody, but
+//! `Local`, which is one caller with a source of its own.
 #![tactic(auto)]
 
 mod arrival;

@@ -74,14 +74,14 @@ fn drive<W: World, S: Source<W>, T: Attempts<W> + Drop, A: Allocator, H: History
     }
 }
 
-/// When a caller lets go of directories of the whole mount.
+/// When a caller unloads directories of the whole mount.
 #[derive(Drop)]
 struct Evicting {
     unloading: Unloading,
     root: Path,
 }
 
-/// Counts a request, and lets go of directories where it is time to.
+/// Counts a request, and unloads directories if it is time to.
 fn let_go<W: World, T: Attempts<W> + Drop, A: Allocator, H: History>(
     mount: &mut Mount<W, T, A, H>,
     evicting: &mut Evicting,
@@ -93,7 +93,7 @@ fn let_go<W: World, T: Attempts<W> + Drop, A: Allocator, H: History>(
     }
 }
 
-/// Asks a request, and goes on with it until it is finished.
+/// Asks a request, and continues with it until it is finished.
 fn finish<W: World, S: Source<W>, T: Attempts<W> + Drop, A: Allocator, H: History>(
     alloc: Global,
     mount: &mut Mount<W, T, A, H>,
@@ -115,7 +115,7 @@ fn finish<W: World, S: Source<W>, T: Attempts<W> + Drop, A: Allocator, H: Histor
     }
 }
 
-/// Serves one request over the source, and lets go of directories where it is time to.
+/// Serves one request over the source, and unloads directories if it is time to.
 fn answer<W: World, S: Source<W>, T: Attempts<W> + Drop, A: Allocator, H: History>(
     alloc: Global,
     mount: &mut Mount<W, T, A, H>,
@@ -137,7 +137,7 @@ fn answer<W: World, S: Source<W>, T: Attempts<W> + Drop, A: Allocator, H: Histor
 }
 
 /// A mount with one caller, who is its first pass, and a source that it asks itself. It waits for nobody. Now and then
-/// it lets go of loaded directories that weren't used for long.
+/// it unloads loaded directories that weren't used for long.
 ///
 /// Contracts see the mount, the source and the last reply.
 #[derive(Drop)]
@@ -231,12 +231,12 @@ impl<W: World, S: Source<W> + Drop, T: Attempts<W> + Drop, A: Allocator, H: Hist
         }
     }
 
-    /// What kept the device from storing when it was to store last; None where it stored, or didn't say.
+    /// What kept the device from storing when it was to store last; None if it stored, or didn't say.
     pub fn obstacle(&self) -> Option<Obstacle> {
         self.mount.obstacle()
     }
 
-    /// Waits until a loss of power would take nothing of what the table stored. False where that isn't known. The last
+    /// Waits until a loss of power would take nothing of what the table stored. False if that isn't known. The last
     /// reply stays.
     pub fn sync(&mut self) -> bool
         ensures { SyncsDesk T.table W.honest self.old result self.new }

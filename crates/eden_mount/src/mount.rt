@@ -31,9 +31,9 @@ use std::marker::{Model, PhantomData};
 /// Requests of many passes over one table, and the history of what they were told.
 ///
 /// A pass is a caller's seat, numbered from 1, with at most one pending request. Each call that may change the mount is
-/// one atomic step. Where the outside is honest, the history is at every moment one that the whole tree has, changed by
-/// one caller at a time, with the inode numbers that its replies told, and the table shows the tree after it. That is
-/// so whether the history keeps its entries or only counts them.
+/// one atomic step. If the outside is honest, the history is at every moment one that the whole tree has, changed by
+/// one caller at a time, with the inode numbers that its replies returned, and the table shows the tree after it. That
+/// is so whether the history keeps its entries or only counts them.
 #[derive(Drop)]
 pub struct Mount<W: World, T: Attempts<W> + Drop, A: Allocator, H: History> {
     alloc: Global,
@@ -144,7 +144,7 @@ impl<W: World, T: Attempts<W> + Drop, A: Allocator, H: History> Mount<W, T, A, H
         }
     }
 
-    /// Starts the request of a pass that may start one, beside so many that are pending, if memory has room for its
+    /// Starts the request of a pass that may start one, beside this many that are pending, if memory has room for its
     /// entry.
     fn take_seat(&mut self, pass: u32, request: Request, pending: usize) -> Result<(), StartFault>
         requires pending { pending ≡ pending_count self.old.seats }
@@ -179,7 +179,7 @@ impl<W: World, T: Attempts<W> + Drop, A: Allocator, H: History> Mount<W, T, A, H
         }
     }
 
-    /// Attempts the request of a pass that may start one, beside so many that are pending, if memory has room for its
+    /// Attempts the request of a pass that may start one, beside this many that are pending, if memory has room for its
     /// entry.
     fn try_at_once(
         &mut self,
@@ -239,11 +239,11 @@ impl<W: World, T: Attempts<W> + Drop, A: Allocator, H: History> Mount<W, T, A, H
 
     /// Goes on with the pass's request: it finishes, and its entry is written, or it waits for a key and for no other.
     ///
-    /// It goes on at the place where it waited if no name has changed since, and else from the root. A place that finds
-    /// no memory isn't kept.
+    /// It continues at the place where it waited if no name has changed since, and else from the root. A place that
+    /// finds no memory isn't kept.
     ///
-    /// The clock goes on first. A mark of a failed key is used now or dropped: where the request still needs that key,
-    /// it is told `Fetch`. If the history copies replies, one that finds no memory for its copy is `Memory`, which a
+    /// The clock advances first. A mark of a failed key is used now or dropped: if the request still needs that key, it
+    /// is told `Fetch`. If the history copies replies, one that finds no memory for its copy is `Memory`, which a
     /// change's never is.
     pub fn turn(&mut self, pass: u32) -> Turned
         ensures { Turns T.table W.honest H.copies self.old pass result self.new }
@@ -266,7 +266,7 @@ impl<W: World, T: Attempts<W> + Drop, A: Allocator, H: History> Mount<W, T, A, H
         self.seats[pass as usize - 1].is_some()
     }
 
-    /// A turn of a pass that has a request pending, after the clock went on.
+    /// A turn of a pass that has a request pending, after the clock advanced.
     fn go_on(&mut self, pass: u32) -> Turned
         requires { (s : declared.Pending) × Pends pass s self.old }
         ensures { GoesOn T.table W.honest H.copies self.old pass result self.new }
@@ -290,7 +290,7 @@ impl<W: World, T: Attempts<W> + Drop, A: Allocator, H: History> Mount<W, T, A, H
         }
     }
 
-    /// The oldest queued key, which somebody is to fetch now. None where none is queued, or the flights are full.
+    /// The oldest queued key, which somebody is to fetch now. None if none is queued, or the flights are full.
     pub fn take_want(&mut self) -> Option<Key>
         ensures { Takes self.old result self.new }
     {
@@ -318,27 +318,27 @@ impl<W: World, T: Attempts<W> + Drop, A: Allocator, H: History> Mount<W, T, A, H
         }
     }
 
-    /// The key can't be had: each request that waits for it now is marked. False, and nothing changed, where it isn't
-    /// in flight.
+    /// The key is unavailable: each request that waits for it now is marked. False, and nothing changed, if it isn't in
+    /// flight.
     pub fn fail(&mut self, key: Key, cause: Cause) -> bool
         ensures { Fails self.old key cause result self.new }
     {
         self.imports.failed(key, cause)
     }
 
-    /// Lets go of the loaded directories at and below the path that weren't used for so many turns. How many went.
+    /// Unloads the loaded directories at and below the path that weren't used for this many turns. How many went.
     pub fn unload(&mut self, path: &Path, older_than: u64) -> u64
         ensures { LetsGo T.table W.honest self.old path.now older_than result self.new }
     {
         self.table.unload(self.alloc, path, older_than)
     }
 
-    /// What kept the device from storing when it was to store last; None where it stored, or didn't say.
+    /// What kept the device from storing when it was to store last; None if it stored, or didn't say.
     pub fn obstacle(&self) -> Option<Obstacle> {
         self.table.obstacle()
     }
 
-    /// Waits until a loss of power would take nothing of what the table stored. False where that isn't known.
+    /// Waits until a loss of power would take nothing of what the table stored. False if that isn't known.
     pub fn sync(&mut self) -> bool
         ensures { IsSynced T.table W.honest self.old result self.new }
     {
@@ -363,11 +363,11 @@ impl<W: World, T: Attempts<W> + Drop, A: Allocator, H: History> Mount<W, T, A, H
 
     /// Makes these events happen, one after another; the outcomes are the answers of the calls.
     ///
-    /// The history goes on with one entry for each finished request, in order, at the number that was told, behind the
-    /// start of its span; where the outside is honest it is legal, and the table shows the tree after it, and numbers
-    /// that back those that it gave. What is pending is what was asked, less what is done. Each fetch fault has its
-    /// failure, which its pass heard while it waited for that key; some pending request waits for each queued key; and
-    /// a key is taken again only after it arrived or failed.
+    /// The history continues with one entry for each finished request, in order, at the number that was told, after the
+    /// start of its span; if the outside is honest it is legal, and the table shows the tree after it, and numbers that
+    /// back those that it gave. What is pending is what was asked, less what is done. Each fetch fault has its failure,
+    /// which its pass heard while it waited for that key; some pending request waits for each queued key; and a key is
+    /// taken again only after it arrived or failed.
     ///
     /// The only error is want of memory for the outcomes, before any event.
     pub fn run(&mut self, events: Vec<Event>) -> Result<Vec<Outcome>, AllocError>

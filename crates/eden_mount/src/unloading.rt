@@ -1,6 +1,6 @@
 ghost use Rattle.std.specs.Prelude.{◌≡◌, ◌≤◌, ◌<◌, ◌+◌, true, false};
 
-/// When a caller lets go of loaded directories that nobody uses any more, so that memory doesn't grow with all that was
+/// When a caller unloads loaded directories that nobody uses any more, so that memory doesn't grow with all that was
 /// ever touched. What the mount shows stays.
 #[derive(Clone, Copy)]
 pub struct Unloading {

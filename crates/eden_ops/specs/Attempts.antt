@@ -56,7 +56,7 @@ pub record Wants (o : Option Row) (c : Cache) (k : Key) : Type 0 where
   pub kind : k.kind ≡ object_kind row.kind
   pub lacks : object_at c k ≡ None
 
--- a length that is to be told isn't kept
+-- a length that is to be returned isn't kept
 abbrev pub IsUnsized : Request → Cache → Key → Type 0
 IsUnsized q c k = (p : Path) → q ≡ ask.Stat p → k.kind ≡ objects.Blob → size_at c k.id ≡ None
 
@@ -149,7 +149,7 @@ module _ {W F : Type 0} (w : Ghosts W) (f : Files F W) where
   Meets p s t d (Ok None) = (walk (known t.root) p ≡ Passes) × (row_at p t.root ≡ None)
   Meets p s t d (Err z) = Ends p s t d (walked_by z)
 
-  -- .. and what is shown where what is met is known
+  -- .. and what is shown if what is met is known
   abbrev pub MeetsShown : Path → Table F → Table F → Result (Option Seen) Stop → Type 0
   MeetsShown p s t (Ok (Some seen)) = IsShown w.repository (f.stored t.files) (row_at p t.root) (reach (shows w f s) p)
   MeetsShown p s t (Ok None) = reach (shows w f s) p ≡ Absent

@@ -63,7 +63,7 @@ pub record Takes (p : Path) (x z : Row) (o : Option Directory) : Type 0 where
   pub taken : (y : Row) → row_at p x ≡ Some y → (o ≡ child_of y) × (IsSome (child_of y) → y.kind ≡ kind.Dir)
 
 -- The entry at the path is a directory and holds none, and this one may be put there: it is saved, with none loaded inside.
--- Where the outside is honest, the entry's own file lists it; or the entry isn't the mount's own, and the table with it is kept. What
+-- If the outside is honest, the entry's own file lists it; or the entry isn't the mount's own, and the table with it is kept. What
 -- is stored for the entry is what it has, with its numbers.
 pub record CanHold (honest : Type 0) (R : Repository) (F : Stored) (next : ℕ) (p : Path) (x : Row) (d : Directory) : Type 0 where
   pub row : Row

@@ -35,7 +35,7 @@ abbrev pub made : Form → List ℕ → List ℕ
 made (form.Written offset bytes) content = written offset bytes.now content
 made (form.Resized size) content = resized size content
 
--- where the outside is honest these are bytes of that blob, from an offset on and at most so many
+-- if the outside is honest these are bytes of that blob, from an offset on and at most this many
 abbrev pub IsPartOfBlob : {W : Type 0} → Ghosts W → Id → ℕ → ℕ → List ℕ → Type 0
 IsPartOfBlob w id offset count bytes = (content : List ℕ) × ((w.honest → w.repository.blob id ≡ Some content)
     × ((length content ≤ most_file) × (bytes ≡ part offset count content)))
@@ -46,19 +46,19 @@ Fits (form.Written offset bytes) = (0 < length bytes.now) × (offset + length by
 Fits (form.Resized size) = size ≤ most_file
 
 module _ {W F : Type 0} (w : Ghosts W) (f : Files F W) where
-  -- the content that the entry at the path shows, where the outside is honest
+  -- the content that the entry at the path shows, if the outside is honest
   pub record IsContent (p : Path) (t : Table F) (content : List ℕ) : Type 0 where
     pub shown : w.honest → (y : Row) → row_at p t.root ≡ Some y
         → content_with w.repository (own_files (f.stored t.files)) (source_of y.number y.origin) ≡ Some content
     pub short : length content ≤ most_file
 
-  -- these are bytes of that content, from an offset on and at most so many
+  -- these are bytes of that content, from an offset on and at most this many
   abbrev pub IsPart : Path → Table F → ℕ → ℕ → List ℕ → Type 0
   IsPart p t offset count bytes = w.honest → (y : Row) → row_at p t.root ≡ Some y
       → (content : List ℕ) × ((content_with w.repository (own_files (f.stored t.files)) (source_of y.number y.origin) ≡ Some content)
       × ((length content ≤ most_file) × (bytes ≡ part offset count content)))
 
-  -- the length of the content that the entry at the path shows, where the outside is honest
+  -- the length of the content that the entry at the path shows, if the outside is honest
   abbrev pub HasLength : Path → Table F → ℕ → Type 0
   HasLength p t n = w.honest → (y : Row) → row_at p t.root ≡ Some y
       → (content : List ℕ) × ((content_with w.repository (own_files (f.stored t.files)) (source_of y.number y.origin) ≡ Some content) × (n ≡ length content))

@@ -32,7 +32,7 @@ pub data Makes : Request → Type 0 where
   makes_dir : (p : Path) → Makes (ask.Mkdir p)
   links : (p : Path) (target : List ℕ) → Makes (ask.Symlink p target)
 
--- want of memory never comes where the directories above the path of a `kind` are loaded
+-- want of memory never comes if the directories above the path of a `kind` are loaded
 abbrev pub MayWantMemory : Request → Row → Type 0
 MayWantMemory q x = (p : Path) → q ≡ ask.Kind p → walk (known x) p ≡ Unlisted
 
@@ -43,8 +43,8 @@ HoldsNone F kind.Exec k = content_at F k ≡ None
 HoldsNone F kind.Link k = content_at F k ≡ None
 HoldsNone F kind.Dir k = entries_at F k ≡ None
 
--- What is stored for the entry isn't had. Where it is the mount's own, its file holds nothing of its kind; where it is a directory on a
--- tree object, its file has numbers that can't be read.
+-- What is stored for the entry is unavailable. If it is the mount's own, its file holds nothing of its kind; if it is a directory on a tree
+-- object, its file has numbers that can't be read.
 pub data IsBad (honest : Type 0) (F : Stored) (y : Row) : Type 0 where
   own : y.origin ≡ origin.Own → (honest → HoldsNone F y.kind y.number) → IsBad honest F y
   numbers : (id : Id) → y.origin ≡ origin.Object id → y.kind ≡ kind.Dir → (honest → AreBadNumbers id (F y.number)) → IsBad honest F y
@@ -80,7 +80,7 @@ module _ {W F : Type 0} (w : Ghosts W) (f : Files F W) where
   IsCaused p s t fault.Numbers = WantsNumbers p t
 
   -- No attempt answers a fetch fault. Of the others each comes where it has its cause; one of a file that is read, or of numbers
-  -- for a directory's entries, only where the request has no reply without them.
+  -- for a directory's entries, only if the request has no reply without them.
   abbrev pub IsLawful : Request → Table F → Table F → Fault → Type 0
   IsLawful q s t (fault.Fetch id cause) = ⊥
   IsLawful q s t fault.Memory = MayWantMemory q s.root

@@ -54,6 +54,6 @@ last_path F [] = []
 last_path F (p ∷ []) = p
 last_path F (p ∷ q ∷ ps) = if is_silent (walk F p) then p else last_path F (q ∷ ps)
 
--- the last place that a request looks at, where the table gives it no reply
+-- the last place that a request looks at, if the table gives it no reply
 abbrev pub place : Tree → Request → Path
 place F q = place_on F (last_path F (paths_of q))

@@ -48,7 +48,7 @@ MayMark (ask.Rename from to) a p = IsFault a × StandsIn from p
 MayMark _ a p = ⊥
 
 -- the loaded directory that a rename moves is so at the new path once it is Ok, with its entries and their numbers; or where it
--- was, as where both paths are one
+-- was, also if both paths are one
 abbrev pub StaysMoved : Request → Attempt → Row → Row → Type 0
 StaysMoved q a x z = (from to : Path) → q ≡ ask.Rename from to → a ≡ Finished say.Ok → IsLoadedAt from x → IsLoadedAt from z ⊎ GoesAlong from to x z
 
@@ -71,7 +71,7 @@ AreSavedAbove (p ∷ ps) x = IsSavedAbove p x × AreSavedAbove ps x
 
 module _ {W F : Type 0} (w : Ghosts W) (f : Files F W) where
   -- Directories are loaded on the way, each entry of a tree object with the next number, and on these paths they stay so.
-  -- Beside that at most so many numbers are given.
+  -- Beside that at most this many numbers are given.
   pub record Gives (walks : List Path) (paths : Path → Type 0) (most : ℕ) (s t : Table F) : Type 0 where
     pub reached : Table F
     pub walked : Keeps w f walks s reached
@@ -88,5 +88,5 @@ module _ {W F : Type 0} (w : Ghosts W) (f : Files F W) where
     pub errs : (e : Errno) → a ≡ Finished (say.Err e) → Keeps w f (paths_of q) s t
     pub faults : (e : Fault) → a ≡ Finished (say.Fault e) → SameNames s.root t.root
     pub marked : (p : Path) → IsUnsavedAt p t.root → MayMark q a p ⊎ IsUnsavedAt p s.root
-    -- Where it is no fault, nothing changed, or no directory is unsaved above the request's paths: what changed stands in the files.
+    -- If it is no fault, nothing changed, or no directory is unsaved above the request's paths: what changed stands in the files.
     pub stands : ¬ IsFault a → Keeps w f (paths_of q) s t ⊎ AreSavedAbove (paths_of q) t.root

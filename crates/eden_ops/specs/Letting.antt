@@ -1,4 +1,4 @@
--- Directories that are let go of.
+-- Directories that are unloaded.
 use Rattle.std.specs.Prelude.{◌≡◌, ◌⊎◌, Some, None}
 use Rattle.eden_model.specs.Trees.{Path}
 use Rattle.eden_tree.specs.Directory.{Row}

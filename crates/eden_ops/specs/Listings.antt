@@ -27,7 +27,7 @@ abbrev pub HasEntries : Tree → Path → Type 0
 HasEntries G p = (n : Name) × IsSome (node_at G (p ++ n ∷ []))
 
 module _ {W F : Type 0} (w : Ghosts W) (f : Files F W) where
-  -- a page of the directory that is shown at the path, where the outside is honest
+  -- a page of the directory that is shown at the path, if the outside is honest
   pub record IsPage (p : Path) (t : Table F) (after : Option Name) (limit : ℕ) (r : Reply) : Type 0 where
     pub all : List (Name × Kind)
     pub is : r ≡ page_of after limit all

@@ -43,7 +43,7 @@ MovesNoName (ask.Rmdir p) = ⊥
 MovesNoName (ask.Rename from to) = ⊥
 MovesNoName _ = Unit {0}
 
--- it asks for more than is ever given or taken, or for nothing where something has to be
+-- it asks for more than is ever given or taken, or for nothing if something has to be
 abbrev pub IsBeyondLimits : Request → Type 0
 IsBeyondLimits (ask.Read p offset count) = most_data < count
 IsBeyondLimits (ask.List p after limit) = (limit ≡ 0) ⊎ (most_entries < limit)

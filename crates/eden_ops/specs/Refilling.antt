@@ -38,7 +38,7 @@ module _ {W F : Type 0} (w : Ghosts W) (f : Files F W) where
     pub same : w.honest → shows w f t ≡ shows w f s
     pub keeps : Keeps w f (p ∷ []) s t
 
-  -- The content was had, at this table, and what it becomes was stored in its place, or wasn't.
+  -- The content was obtained, at this table, and what it becomes was stored in its place, or wasn't.
   pub record Refills (p : Path) (form : Form) (s t : Table F) (answer : Result (Unit {0}) Fault) : Type 0 where
     pub table : Table F
     pub asks : AsksContent p s table

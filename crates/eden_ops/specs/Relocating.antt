@@ -53,7 +53,7 @@ both_owned p q x = owned (owned_along q (owned (owned_along p x)))
 
 module _ {W F : Type 0} (w : Ghosts W) (f : Files F W) where
   -- A step before a change: what is shown is as before, and so are its numbers, what is loaded was so, with the same names and stamps, and what is
-  -- unsaved was so. Where it is done, the device did not fail.
+  -- unsaved was so. If it is done, the device did not fail.
   pub record Readies (s t : Table F) (answer : Result (Unit {0}) Fault) : Type 0 where
     pub shown : w.honest → shows w f t ≡ shows w f s
     pub numbers : w.honest → ShowsSameNumbers f s t
@@ -69,7 +69,7 @@ module _ {W F : Type 0} (w : Ghosts W) (f : Files F W) where
     pub places : KeepsPlaces s t
 
   -- An entry went to another path, a loaded directory with its listing; or, after a fault, no entry went, and what is loaded is
-  -- so still, but for what was let go of before.
+  -- so still, but for what was unloaded before.
   pub record Relocates (from to : Path) (s t : Table F) (answer : Result (Unit {0}) Fault) : Type 0 where
     pub ok : w.honest → OnOk answer (shows w f t ≡ move (shows w f s) from to)
     pub err : w.honest → OnErr answer (shows w f t ≡ shows w f s)

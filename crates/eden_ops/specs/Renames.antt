@@ -26,11 +26,11 @@ pub record IsTold (seen : Seen) (dir : Bool) : Type 0 where
   pub yes : dir ≡ true → (seen.loaded ≡ true) ⊎ (seen.kind ≡ kind.Dir)
   pub otherwise : dir ≡ false → (seen.loaded ≡ false) × (seen.kind ≢ kind.Dir)
 
--- what the table says where a directory, or else a file or a link, is to stand at a path
+-- what the table says if a directory, or else a file or a link, is to stand at a path
 abbrev pub MayLand : Tree → Path → Bool → Reply → Type 0
 MayLand G to dir = Meets (reach G to) (Says say.Ok) (Replaces G to dir)
 
--- .. and where it comes from another path
+-- .. and if it comes from another path
 abbrev pub Goes : Tree → Path → Path → Bool → Reply → Type 0
 Goes G from to dir =
     Whether (path_eq from to) (Says say.Ok)

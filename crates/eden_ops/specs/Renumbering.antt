@@ -21,7 +21,7 @@ abbrev pub edited_by : Request → Attempt → Numbering → Numbering
 edited_by q (Finished r) M = renumbered q r M
 edited_by q (Need k) M = M
 
--- a `stat` that is answered tells the number that is shown at its path
+-- a `stat` that is answered returns the number that is shown at its path
 abbrev pub TellsItsNumber : Request → Attempt → Numbering → Type 0
 TellsItsNumber q a T = (p : Path) (k : Kind) (size n : ℕ) → q ≡ ask.Stat p → a ≡ Finished (say.Stat k size n) → T p ≡ Some n
 
@@ -35,7 +35,7 @@ module _ {W F : Type 0} (w : Ghosts W) (f : Files F W) where
     pub edits : w.honest → AreShown (shows_numbers f reached) reached.next → t.next ≤ number_end
         → Gains (edited_by q a (shows_numbers f reached)) reached.next (shows_numbers f t) t.next
 
-  -- What is shown of numbers is gained, changed as the request changes them if it is done, and gained; a `stat` tells the one
+  -- What is shown of numbers is gained, changed as the request changes them if it is done, and gained; a `stat` returns the one
   -- that is shown then. A wait gains some alone.
   abbrev pub Renumbered : Request → Table F → Table F → Attempt → Type 0
   Renumbered q s t (Finished r) = Renumbers (shows_numbers f s) s.next q r (shows_numbers f t) t.next

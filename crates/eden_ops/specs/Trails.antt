@@ -61,8 +61,8 @@ abbrev pub LeadsAll : Place → Type 0
 LeadsAll p = (q : Request) (changes : ℕ) (x : Row) → LeadsFor q changes x p
 
 module _ {F : Type 0} where
-  -- an attempt of the request may go on at the place: it was noted at no later count of changes, and it leads along a path of the
-  -- request, unless it is passed over
+  -- an attempt of the request may continue at the place: it was noted at no later count of changes, and it leads along a path of
+  -- the request, unless it is passed over
   pub record MayGoOn (q : Request) (s : Table F) (p : Place) : Type 0 where
     pub noted : p.changes < 2 ^ 64 - 1 → p.changes ≤ s.changes
     pub leads : LeadsFor q s.changes s.root p

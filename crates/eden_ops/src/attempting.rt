@@ -88,7 +88,7 @@ pub fn change<A: Allocator + Clone, W: World, F: Files<W>, C: Allocator + Clone>
 }
 
 /// One attempt of a request: it is answered as the table of operations answers it on what is shown, or ends in a fault,
-/// or needs an object that the cache lacks. Nothing is fetched. Where it asks for what is so already nothing is stored.
+/// or needs an object that the cache lacks. Nothing is fetched. If it asks for what is so already nothing is stored.
 /// One that moves no name, as a `write`, leaves the count of changes.
 pub fn attempt<A: Allocator + Clone, W: World, F: Files<W>, C: Allocator + Clone>(
     inodes: &mut Inodes<A, W, F>,
@@ -113,7 +113,7 @@ pub fn attempt<A: Allocator + Clone, W: World, F: Files<W>, C: Allocator + Clone
 }
 
 /// `attempt`, from the place where an earlier one waited, if no name has changed since; any other place is passed over.
-/// Where this one waits is left there; where it ends nothing is, and of a place without positions no more than their
+/// Where this one waits is left there; if it ends nothing is, and of a place without positions no more than their
 /// number is read or written. To `compared` it adds how many names it compared on its paths: at most 32 for each
 /// component of the path that the place doesn't lead to.
 pub fn attempt_from<A: Allocator + Clone, W: World, F: Files<W>, C: Allocator + Clone>(

@@ -19,7 +19,7 @@ use eden_model::{Fault, Id, Key, Name, ObjKind, Origin, TreeEntry, World};
 use eden_overlay::Files;
 use std::alloc::{AllocError, Allocator, Global};
 
-/// The entries of a tree object, where it is cached.
+/// The entries of a tree object, if it is cached.
 fn cached_tree<W: World, C: Allocator + Clone>(
     cache: &mut Stock<W, C>,
     alloc: Global,
@@ -71,7 +71,7 @@ fn bring_object<A: Allocator + Clone, W: World, F: Files<W>>(
     inodes.load(alloc, path, Some(entries))
 }
 
-/// Loads the directory at a path from its tree object, for which no numbers are saved, where that is cached.
+/// Loads the directory at a path from its tree object, for which no numbers are saved, if that is cached.
 fn bring_cached<A: Allocator + Clone, W: World, F: Files<W>, C: Allocator + Clone>(
     inodes: &mut Inodes<A, W, F>,
     cache: &mut Stock<W, C>,
@@ -100,7 +100,7 @@ fn bring_cached<A: Allocator + Clone, W: World, F: Files<W>, C: Allocator + Clon
 }
 
 /// Loads the directory at a path, which stands on that tree object: with the numbers saved for it, and without the
-/// object; or else from the object, where it is cached.
+/// object; or else from the object, if it is cached.
 fn bring_tree<A: Allocator + Clone, W: World, F: Files<W>, C: Allocator + Clone>(
     inodes: &mut Inodes<A, W, F>,
     cache: &mut Stock<W, C>,

@@ -16,7 +16,7 @@ use eden_model::{Bytes, Id, Key, ObjKind, Origin, Path, World};
 use eden_overlay::{Files, part_of};
 use std::alloc::{AllocError, Allocator, Global};
 
-/// The bytes of a cached blob from an offset on, at most so many.
+/// The bytes of a cached blob from an offset on, at most this many.
 fn cached_part<W: World, C: Allocator + Clone>(
     cache: &mut Stock<W, C>,
     alloc: Global,
@@ -38,7 +38,7 @@ fn cached_part<W: World, C: Allocator + Clone>(
     }
 }
 
-/// The bytes of the file or link at a path, which comes from that origin, from an offset on, at most so many.
+/// The bytes of the file or link at a path, which comes from that origin, from an offset on, at most this many.
 pub(crate) fn part<A: Allocator + Clone, W: World, F: Files<W>, C: Allocator + Clone>(
     inodes: &mut Inodes<A, W, F>,
     cache: &mut Stock<W, C>,

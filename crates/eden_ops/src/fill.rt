@@ -15,7 +15,7 @@ use eden_overlay_format::Spliced;
 use std::alloc::{Allocator, Global};
 
 /// Stores a content of at most 2^30 bytes for the file or link at a path, which isn't loaded. The old content isn't
-/// asked for. The directories above that are unsaved are stored first. Errors: `Overlay` where the device failed, and
+/// asked for. The directories above that are unsaved are stored first. Errors: `Overlay` if the device failed, and
 /// `Memory`; what is shown is as before then.
 pub(crate) fn fill<A: Allocator + Clone, W: World, F: Files<W>>(
     inodes: &mut Inodes<A, W, F>,

@@ -7,7 +7,7 @@ use eden_coupling::shown_laws;
 use eden_model::{World, backing_laws};
 use eden_overlay::Files;
 
-/// What an attempt that changes nothing keeps: what is shown, and where the outside is honest the stored files; each
+/// What an attempt that changes nothing keeps: what is shown, and if the outside is honest the stored files; each
 /// entry, and what is loaded, and no directory becomes unsaved; the clock and the count of changes; the stamp of each
 /// directory that is loaded, unless it leads to a path of the request; and each number that is shown. Numbers are
 /// given, and the device's failures rise.

@@ -1,8 +1,7 @@
 //! One attempt of a request: what the table of operations answers on what a mount shows, or the object that is needed.
 //!
-//! An attempt looks at the entries in memory, and loads directories on the way where their objects are cached or their
-//! files stored. It fetches nothing: where an object is lacking, it names it, and is made again once the object is
-//! cached.
+//! An attempt looks at the entries in memory, and loads directories on the way if their objects are cached or their
+//! files stored. It fetches nothing: if an object is lacking, it names it, and is made again once the object is cached.
 #![tactic(auto)]
 
 mod add;

@@ -18,10 +18,10 @@ use eden_model::{Errno, Kind, Name, Path, World};
 use eden_overlay::Files;
 use std::alloc::{Allocator, Global};
 
-/// The entry at a path, or None where the directory above it has none of that name; else why the walk over the
-/// directories above it ends before. Those that aren't loaded are loaded, where that can be.
+/// The entry at a path, or None if the directory above it has none of that name; else why the walk over the directories
+/// above it ends before. Those that aren't loaded are loaded, if that can be.
 ///
-/// One look over the whole path, and one more for each directory that is loaded. None of them compares names where the
+/// One look over the whole path, and one more for each directory that is loaded. None of them compares names if the
 /// trail has positions.
 fn pass<A: Allocator + Clone, W: World, F: Files<W>, C: Allocator + Clone>(
     inodes: &mut Inodes<A, W, F>,
@@ -38,7 +38,7 @@ fn pass<A: Allocator + Clone, W: World, F: Files<W>, C: Allocator + Clone>(
     ensures leads { Leads path.now trail.new.positions inodes.new.root }
     ensures counts { Counts path.now trail.old trail.new }
 {
-    // So many directories from the root on are loaded.
+    // This many directories from the root on are loaded.
     let mut loaded = 0;
     'fronts: loop {
         let seen = inodes.look_along(path, trail);

@@ -21,7 +21,7 @@ use eden_model::{Errno, Kind, Path, World};
 use eden_overlay::Files;
 use std::alloc::{Allocator, Global};
 
-/// The file at a path, or how the attempt of a request for it ends where it isn't met.
+/// The file at a path, or how the attempt of a request for it ends if it isn't met.
 pub(crate) fn meet_file<A: Allocator + Clone, W: World, F: Files<W>, C: Allocator + Clone>(
     inodes: &mut Inodes<A, W, F>,
     cache: &mut Stock<W, C>,

@@ -178,7 +178,7 @@ fn move_saved<A: Allocator + Clone, W: World, F: Files<W>>(
 }
 
 /// Moves an entry that holds a directory to another path, in place of what stands there. The directory stays loaded,
-/// with its listing: at the new path, or where the move failed at the old one.
+/// with its listing: at the new path, or, if the move failed, at the old one.
 ///
 /// The numbers of a directory on a tree object are saved first: while it moves, it is in no table.
 pub(crate) fn move_dir<A: Allocator + Clone, W: World, F: Files<W>>(

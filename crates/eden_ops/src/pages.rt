@@ -11,7 +11,7 @@ use eden_overlay::Files;
 use eden_tree::Dir;
 use std::alloc::{AllocError, Allocator, Global};
 
-/// How many entries stand before those behind a name; none, where it is left out.
+/// How many entries stand before those after a name; none if it is left out.
 fn first_behind<A: Allocator>(dir: &Dir<A>, after: &Option<Name>) -> u32
     ensures within { result ≤ length dir.now.rows }
     ensures greater { drop result dir.now.rows ≡ filter (λ r. is_after after.now r.0) dir.now.rows }
@@ -43,7 +43,7 @@ fn kinds_between<A: Allocator>(
     Ok(kinds)
 }
 
-/// The first entries of a directory behind a name, at most so many, and whether others come after them.
+/// The first entries of a directory after a name, at most this many, and whether others come after them.
 fn page<A: Allocator>(
     alloc: Global,
     dir: &Dir<A>,
@@ -59,7 +59,7 @@ fn page<A: Allocator>(
     Ok(Reply::Entries(Entries::new(kinds), left as u64 > limit))
 }
 
-/// The first entries behind a name of the directory that is loaded at a path, at most so many, and whether others come
+/// The first entries after a name of the directory that is loaded at a path, at most this many, and whether others come
 /// after them.
 pub(crate) fn page_at<A: Allocator + Clone, W: World, F: Files<W>>(
     inodes: &Inodes<A, W, F>,

@@ -24,7 +24,7 @@ fn inside(alloc: Global, path: &[Name], name: &Name) -> Result<Vec<Name>, AllocE
     Ok(names)
 }
 
-/// The path of the loaded directory at a position of the one at a path: None where that is none.
+/// The path of the loaded directory at a position of the one at a path: None if that is none.
 fn loaded_inside<A: Allocator + Clone, W: World, F: Files<W>>(
     inodes: &Inodes<A, W, F>,
     alloc: Global,
@@ -50,7 +50,7 @@ fn loaded_inside<A: Allocator + Clone, W: World, F: Files<W>>(
     }
 }
 
-/// Lets go of what is loaded at and below the entry at a position of the directory at a path.
+/// Unloads what is loaded at and below the entry at a position of the directory at a path.
 fn let_go_at<A: Allocator + Clone, W: World, F: Files<W>>(
     inodes: &mut Inodes<A, W, F>,
     alloc: Global,
@@ -67,7 +67,7 @@ fn let_go_at<A: Allocator + Clone, W: World, F: Files<W>>(
     }
 }
 
-/// Lets go of what is loaded below the directory at a path.
+/// Unloads what is loaded below the directory at a path.
 fn let_go_below<A: Allocator + Clone, W: World, F: Files<W>>(
     inodes: &mut Inodes<A, W, F>,
     alloc: Global,
@@ -89,7 +89,7 @@ fn let_go_below<A: Allocator + Clone, W: World, F: Files<W>>(
     Ok(())
 }
 
-/// Stores the directory at a path, which has this name, where it is unsaved.
+/// Stores the directory at a path, which has this name, if it is unsaved.
 fn settle_at<A: Allocator + Clone, W: World, F: Files<W>>(
     inodes: &mut Inodes<A, W, F>,
     alloc: Global,
@@ -113,10 +113,10 @@ fn settle_at<A: Allocator + Clone, W: World, F: Files<W>>(
     }
 }
 
-/// Makes what is loaded at a path ready to go along with its entry: what is loaded below it is let go, and it is stored
-/// where it is unsaved.
+/// Makes what is loaded at a path ready to go along with its entry: what is loaded below it is unloaded, and it is
+/// stored if it is unsaved.
 ///
-/// Errors: `Overlay` where the device failed, and `Memory`. The directory stays loaded.
+/// Errors: `Overlay` if the device failed, and `Memory`. The directory stays loaded.
 pub(crate) fn ready<A: Allocator + Clone, W: World, F: Files<W>>(
     inodes: &mut Inodes<A, W, F>,
     alloc: Global,
@@ -135,7 +135,7 @@ pub(crate) fn ready<A: Allocator + Clone, W: World, F: Files<W>>(
 
 /// Has the numbers saved of the directory that is loaded at a path, if it stands on a tree object.
 ///
-/// Errors: `Overlay` where the device failed, and `Memory`.
+/// Errors: `Overlay` if the device failed, and `Memory`.
 pub(crate) fn save_numbers<A: Allocator + Clone, W: World, F: Files<W>>(
     inodes: &mut Inodes<A, W, F>,
     alloc: Global,

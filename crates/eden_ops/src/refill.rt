@@ -41,7 +41,7 @@ fn spliced<'a>(content: &'a [u8], form: Form<'a>) -> Spliced<'a>
     }
 }
 
-/// Stores what the content of a blob becomes for the file at a path, where the blob is cached.
+/// Stores what the content of a blob becomes for the file at a path, if the blob is cached.
 fn refill_cached<A: Allocator + Clone, W: World, F: Files<W>, C: Allocator + Clone>(
     inodes: &mut Inodes<A, W, F>,
     cache: &mut Stock<W, C>,

@@ -34,7 +34,7 @@ fn own_both<A: Allocator + Clone, W: World, F: Files<W>>(
 }
 
 /// Makes ready what an entry takes along to another path, and that path: what is loaded below the entry, and at and
-/// below that path, is let go, a loaded directory is stored where it is unsaved, and the directories above both become
+/// below that path, is unloaded, a loaded directory is stored if it is unsaved, and the directories above both become
 /// the mount's own.
 fn clear_way<A: Allocator + Clone, W: World, F: Files<W>>(
     inodes: &mut Inodes<A, W, F>,
@@ -134,12 +134,12 @@ fn settle_both<A: Allocator + Clone, W: World, F: Files<W>>(
 }
 
 /// Moves the entry at one path to another, in place of what stands there. What is unsaved above both is stored first,
-/// what is loaded below it and at and below the other path is let go, and the directories above both become the mount's
-/// own. A loaded directory stays so, with its entries and their numbers: at the new path, or after a fault where it
-/// was.
+/// what is loaded below it and at and below the other path is unloaded, and the directories above both become the
+/// mount's own. A loaded directory stays so, with its entries and their numbers: at the new path, or after a fault
+/// where it was.
 ///
-/// Errors: `Overlay` where the device failed, and `Memory`, also where there is no room for one more entry. What is
-/// shown is as before then; the directory above the entry may be left unsaved.
+/// Errors: `Overlay` if the device failed, and `Memory`, also if there is no room for one more entry. What is shown is
+/// as before then; the directory above the entry may be left unsaved.
 pub(crate) fn relocate<A: Allocator + Clone, W: World, F: Files<W>>(
     inodes: &mut Inodes<A, W, F>,
     alloc: Global,

@@ -11,9 +11,9 @@ use eden_overlay::Files;
 use std::alloc::{Allocator, Global};
 
 /// Stores the loaded directories above the entry at a path that are unsaved, so that what changes there next stands in
-/// the files once it is answered. Where none is unsaved, nothing is done.
+/// the files once it is answered. If none is unsaved, nothing is done.
 ///
-/// Errors: `Overlay` where the device failed, and `Memory`. All but the marks is as it was then.
+/// Errors: `Overlay` if the device failed, and `Memory`. All but the marks is as it was then.
 pub(crate) fn settle<A: Allocator + Clone, W: World, F: Files<W>>(
     inodes: &mut Inodes<A, W, F>,
     alloc: Global,

@@ -15,7 +15,7 @@ use std::alloc::{Allocator, Global};
 /// The walk over the directories above a path, the shortest first: each that isn't loaded is loaded, or the walk ends
 /// there.
 ///
-/// Where they are loaded already, it takes one look-up for each name and no memory.
+/// If they are loaded already, it takes one look-up for each name and no memory.
 pub fn reach<A: Allocator + Clone, W: World, F: Files<W>, C: Allocator + Clone>(
     inodes: &mut Inodes<A, W, F>,
     cache: &mut Stock<W, C>,

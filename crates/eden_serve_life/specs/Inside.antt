@@ -1,4 +1,4 @@
--- What goes on inside a shared mount's life: the states in which each fault that is told has its cause.
+-- What happens inside a shared mount's life: the states in which each fault that is reported has its cause.
 use Rattle.std.specs.Prelude.{◌≡◌, ◌⊎◌, ℕ, Option, Some, None, Result, Ok, Err, ⊤}
 use Rattle.std.specs.declared.io.Read.{Ghosts as Read}
 use Rattle.std.specs.declared.io.Write.{Ghosts as Write}
@@ -34,7 +34,7 @@ module _ {W F : Type 0} (w : Ghosts W) (f : Files F W) where
   abbrev pub ClosesAs : Checkout F → SharedEnding F → Type 0
   ClosesAs t left = (N : Numbers) → IsBacking w f N t → Closes w f t.root t (shows w f t.inodes) N left.unclosed left.files
 
-  -- an open checkout was closed, and the first fault told: its guests were hosted, or there was no memory to share it
+  -- an open checkout was closed, and the first fault reported: its guests were hosted, or there was no memory to share it
   abbrev pub Ends : Result (HostedTable (Checkout F)) (Checkout F) → SharedEnding F → Type 0
   Ends (Ok x) left = ClosesAs x.table left × (left.outcome ≡ first_told x.outcome left.unclosed)
   Ends (Err t) left = ClosesAs t left × (left.outcome ≡ Err (life.Open opens.Memory))
@@ -44,7 +44,7 @@ module _ {W F : Type 0} (w : Ghosts W) (f : Files F W) where
     pub refused : IsNotOpened w f base files why left.files
     pub unclosed : left.unclosed ≡ None
 
-  -- The overlay was opened, and closed again, since there was no memory to share it. Where the outside is honest, it shows
+  -- The overlay was opened, and closed again, since there was no memory to share it. If the outside is honest, it shows
   -- the opening tree still, and backs the opening numbers.
   pub record IsUnsharedInside (base : Base) (settings : Settings) (files : F) (why : OpenFault) (left : SharedEnding F) : Type 0 where
     pub memory : why ≡ opens.Memory
@@ -52,11 +52,11 @@ module _ {W F : Type 0} (w : Ghosts W) (f : Files F W) where
     pub opened : IsOpened w f base settings files begun
     pub closed : Closes w f base.root begun w.opening w.numbers left.unclosed left.files
 
-  -- the history may become so long
+  -- the history may become this long
   module _ {I O : Type 0} (i : Read I) (o : Write O) (limit : ℕ) where
     -- The overlay was opened, its guests hosted, and the overlay closed, however the sessions ended. The files are the same
-    -- commit's, and no inode number was given again. Where the outside is honest, what they show is the tree after what the
-    -- guests were told, and where they were closed they back the numbers that were told.
+    -- commit's, and no inode number was given again. If the outside is honest, what they show is the tree after what the
+    -- guests were told, and if they were closed they back the numbers that were told.
     pub record IsHostedInside (base : Base) (settings : Settings) (files : F) (left : SharedEnding F) : Type 0 where
       pub begun : Checkout F
       pub opened : IsOpened w f base settings files begun

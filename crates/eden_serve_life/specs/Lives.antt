@@ -21,14 +21,14 @@ use Rattle.eden_serve_life.specs.declared.fault.SharedLifeFault.{SharedLifeFault
 use Rattle.eden_serve_life.specs.declared.fault.SharedLifeFault.TheVariants as life
 use Rattle.eden_serve_life.specs.declared.life.SharedEnding.{SharedEnding}
 
--- the fault of hosting guests is told before that of the close
+-- the fault of hosting guests is reported before that of the close
 abbrev pub first_told : Result ⊤ HostFault → Option FilesFault → Result ⊤ SharedLifeFault
 first_told (Err host.Listen) unclosed = Err life.Listen
 first_told (Err (host.Session fault)) unclosed = Err (life.Session fault)
 first_told (Ok _) (Some fault) = Err (life.Close fault)
 first_told (Ok _) None = Ok tt
 
--- the mount has so many passes, and its history may become so long
+-- the mount has this many passes, and its history may become this long
 module _ {W F I O : Type 0} (w : Ghosts W) (f : Files F W) (i : Read I) (o : Write O) (passes limit : ℕ) where
   -- the overlay wasn't opened, and stays as it was
   pub record IsUnopened (files : F) (left : SharedEnding F) : Type 0 where

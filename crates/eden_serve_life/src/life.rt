@@ -28,7 +28,7 @@ use std::thread::Threads;
 pub struct SharedEnding<F> {
     /// The files as they stand.
     pub files: F,
-    /// Why the overlay wasn't closed, if it was open and wasn't closed; told too where another fault came first.
+    /// Why the overlay wasn't closed, if it was open and wasn't closed; reported too if another fault came first.
     pub unclosed: Option<FilesFault>,
     /// The first fault of opening, listening, sessions and close.
     pub outcome: Result<(), SharedLifeFault>,
@@ -140,12 +140,12 @@ fn live_tied<
 ///
 /// The clients come in the order in which the listener takes them, each with its own thread and its own session, which
 /// ends where its input does or at a line that is no request. What they were told is one history: the replies of the
-/// commit's whole tree, changed by one request after another, with the inode numbers that a `stat` may tell. The
+/// commit's whole tree, changed by one request after another, with the inode numbers that a `stat` may return. The
 /// overlay is closed once the last session has ended, and after a fault too, with the same commit and the next inode
-/// number that was reached, and backs the numbers that were told; only where the close fails are the files left without
+/// number that was reached, and backs the numbers that were told; only if the close fails are the files left without
 /// their state.
 ///
-/// Errors are told in `outcome`, the first in the order opening, listening, session, close. Where the overlay isn't
+/// Errors are reported in `outcome`, the first in the order opening, listening, session, close. If the overlay isn't
 /// opened, or there is no memory to share it, nobody is listened for; `inside` says why it wasn't opened.
 pub fn live_shared<
     W: World + Send,

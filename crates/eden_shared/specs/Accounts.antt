@@ -18,7 +18,7 @@ pended q n = record { request = q; since = n }
 abbrev pub account : Terms → Option Pending → List Told → Account
 account terms s ts = record { terms = terms; pending = s; told = ts }
 
--- the entries of pass c, where the first has the number n
+-- the entries of pass c, if the first has the number n
 abbrev pub told_by : ℕ → ℕ → List Entry → List Told
 told_by c n [] = []
 told_by c n (e ∷ es) = if e.pass == c then told_as n e.request e.reply ∷ told_by c (suc n) es else told_by c (suc n) es

@@ -46,7 +46,7 @@ module _ (honest : Type 0) (opening : Tree) (numbers : Numbers) where
   abbrev pub StandsIn : ℕ → ℕ → Request → Reply → Type 0
   StandsIn n c q r = (before : List Entry) × (length (before ++ entry c q r ∷ []) ≡ n) × (honest → Legal opening numbers (before ++ entry c q r ∷ []))
 
-  -- what was pending was answered so, at a number behind the start's
+  -- what was pending was answered so, at a number after the start's
   abbrev pub AnswersTo : ℕ → Answered → Pending → Type 0
   AnswersTo c a s = StandsIn a.number c s.request a.reply × (s.since < a.number)
 

@@ -35,7 +35,7 @@ impl<W: World, T: Attempts<W> + Drop, A: Allocator, J: Naming, H: History> Share
         }
     }
 
-    /// Fetches as `fetch_one` does, and waits where nothing is wanted, until `stop` was called and nothing is pending.
+    /// Fetches as `fetch_one` does, and waits if nothing is wanted, until `stop` was called and nothing is pending.
     pub fn fetch_all<S: Source<W>, R: Wait>(&self, rt: &R, source: &mut S) {
         for _ in rt.forever() {
             let Some(key) = self.next_want(rt) else {

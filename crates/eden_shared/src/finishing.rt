@@ -18,7 +18,7 @@ pub struct Torn<W: World, T: Attempts<W> + Drop, A: Allocator, J: Naming, H: His
 }
 
 impl<W: World, T: Attempts<W> + Drop, A: Allocator, J: Naming, H: History> Shared<W, T, A, J, H> {
-    /// Gives the mount back, where each of its passes is there once: then nothing is pending, and the history's entries
+    /// Gives the mount back, if each of its passes is there once: then nothing is pending, and the history's entries
     /// are what the passes were told, and no others. Else `Torn`, with mount and passes as they were. It takes no
     /// memory.
     pub fn finish(self, passes: Vec<Pass<J>>) -> Result<Mount<W, T, A, H>, Torn<W, T, A, J, H>>

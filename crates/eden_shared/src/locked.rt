@@ -193,12 +193,12 @@ impl<W: World, T: Attempts<W> + Drop, A: Allocator, J: Naming, H: History> Locke
         self.mount.arrive(key, framed)
     }
 
-    /// A key can't be had. False where nobody fetches it.
+    /// A key is unavailable. False if nobody fetches it.
     pub(crate) fn fail(&mut self, key: Key, cause: Cause) -> bool {
         self.mount.fail(key, cause)
     }
 
-    /// Lets go of loaded directories. How many went.
+    /// Unloads loaded directories. How many went.
     pub(crate) fn unload(&mut self, path: &Path, older_than: u64) -> u64 {
         self.mount.unload(path, older_than)
     }
@@ -208,7 +208,7 @@ impl<W: World, T: Attempts<W> + Drop, A: Allocator, J: Naming, H: History> Locke
         self.mount.obstacle()
     }
 
-    /// Waits for the disk. False where it isn't known that all is there.
+    /// Waits for the disk. False if it isn't known that all is there.
     pub(crate) fn sync(&mut self) -> bool {
         self.mount.sync()
     }

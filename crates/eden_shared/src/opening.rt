@@ -34,7 +34,7 @@ pub struct Ties {
 }
 
 impl Ties {
-    /// Ties for so many passes. The only error is want of memory.
+    /// Ties for this many passes. The only error is want of memory.
     pub fn new(alloc: Global, passes: u32) -> Result<Ties, AllocError>
         ensures { IfOk result (λ t. AreTied t.lanes.items t.ends.items passes) }
     {

@@ -48,7 +48,7 @@ impl<J: Naming> Pass<J> {
         self.number
     }
 
-    /// The least number that its next entry may have, or 2^64 - 1 where it is greater.
+    /// The least number that its next entry may have, or 2^64 - 1 if it is greater.
     pub fn floor(&self) -> u64
         ensures { result ≡ min self.now.floor u64.MAX }
     {
@@ -73,11 +73,11 @@ impl<J: Naming> Pass<J> {
     }
 
     /// Asks a request, and waits for its reply and the number of its entry. The number isn't below the floor, which is
-    /// behind it afterwards.
+    /// above it afterwards.
     ///
-    /// Faults: `Start` with `Memory`, or with `HistoryFull` and the limit, where entries and pending requests are as
-    /// many as the history may have; `Foreign`, where a number that the pass learnt isn't in the history; `Stopped`.
-    /// Each leaves the pass as it was.
+    /// Faults: `Start` with `Memory`, or with `HistoryFull` and the limit, if entries and pending requests are as many
+    /// as the history may have; `Foreign`, if a number that the pass learnt isn't in the history; `Stopped`. Each
+    /// leaves the pass as it was.
     pub fn call<W: World, T: Attempts<W> + Drop, A: Allocator, H: History, R: Wait>(
         &mut self,
         shared: &Shared<W, T, A, J, H>,
@@ -95,7 +95,7 @@ impl<J: Naming> Pass<J> {
         Ok(answer)
     }
 
-    /// As `call`, and fetches from the source what it needs, where nobody else does.
+    /// As `call`, and fetches from the source what it needs, if nobody else does.
     pub fn call_by<
         W: World,
         T: Attempts<W> + Drop,

@@ -53,7 +53,7 @@ fn keep(alloc: Global, told: &mut Vec<Told>, request: &Request) -> Result<Reques
 }
 
 impl<J: Naming> Recording<J> {
-    /// Records what the pass is told. It takes no memory. The pass comes back where it was told or learnt something
+    /// Records what the pass is told. It takes no memory. The pass comes back if it was told or learnt something
     /// before.
     pub fn new(alloc: Global, pass: Pass<J>) -> Result<Self, Pass<J>>
         ensures ok { IfOk result (λ r. r ≡ pass) }

@@ -50,7 +50,7 @@ impl<W: World, T: Attempts<W> + Drop, A: Allocator, J: Naming, H: History> Share
         self.lock.lock(rt).start(number, known, end, request)
     }
 
-    /// Wakes the fetchers where nothing will be wanted any more.
+    /// Wakes the fetchers if nothing will be wanted any more.
     fn tell_over(&self, locked: &Locked<W, T, A, J, H>) {
         if locked.is_over() {
             self.fetchers.notify_all();
@@ -76,7 +76,7 @@ impl<W: World, T: Attempts<W> + Drop, A: Allocator, J: Naming, H: History> Share
         unreachable!()
     }
 
-    /// Fetches what is wanted, or waits where others fetch that. It lets go of the lock.
+    /// Fetches what is wanted, or waits if others fetch that. It releases the lock.
     fn fetch_or_wait<S: Source<W>, R: Wait>(
         &self,
         rt: &R,
@@ -92,7 +92,7 @@ impl<W: World, T: Attempts<W> + Drop, A: Allocator, J: Naming, H: History> Share
         }
     }
 
-    /// Tries until the pending request is answered. Between two tries it fetches what is wanted, or waits where others
+    /// Tries until the pending request is answered. Between two tries it fetches what is wanted, or waits if others
     /// fetch that.
     pub(crate) fn fetch_for<S: Source<W>, R: Wait>(
         &self,
@@ -117,24 +117,24 @@ impl<W: World, T: Attempts<W> + Drop, A: Allocator, J: Naming, H: History> Share
         unreachable!()
     }
 
-    /// From now on new calls are answered `Stopped`; those that are pending go on.
+    /// From now on new calls are answered `Stopped`; those that are pending continue.
     pub fn stop<R: Wait>(&self, rt: &R) {
         self.lock.lock(rt).stop();
         self.fetchers.notify_all();
     }
 
-    /// Lets go of the loaded directories at and below the path that weren't used for so many turns. How many went.
+    /// Unloads the loaded directories at and below the path that weren't used for this many turns. How many went.
     pub fn unload<R: Wait>(&self, rt: &R, path: &Path, older_than: u64) -> u64 {
         self.lock.lock(rt).unload(path, older_than)
     }
 
-    /// What kept the device from storing when it was to store last; None where it stored, or didn't say.
+    /// What kept the device from storing when it was to store last; None if it stored, or didn't say.
     pub fn obstacle<R: Wait>(&self, rt: &R) -> Option<Obstacle> {
         self.lock.lock(rt).obstacle()
     }
 
-    /// Waits until a loss of power would take nothing of what the mount stored, and holds the lock meanwhile. False
-    /// where that isn't known.
+    /// Waits until a loss of power would take nothing of what the mount stored, and holds the lock meanwhile. False if
+    /// that isn't known.
     pub fn sync<R: Wait>(&self, rt: &R) -> bool {
         self.lock.lock(rt).sync()
     }

@@ -11,7 +11,7 @@ use Rattle.eden_source.specs.Fetching.{Answer}
 use Rattle.eden_mount.specs.Tables.{Table}
 use Rattle.eden_mount.specs.Serving.{Desk, Lends, Declines}
 
--- What one caller may be told of a request, where the history may have so many entries: a reply, or that the request wasn't
+-- What one caller may be told of a request, if the history may have this many entries: a reply, or that the request wasn't
 -- taken, since the history is full or there is no memory. None is a request that the mount wasn't asked, for want of memory.
 abbrev pub MayBeTold : ℕ → Option (Result Reply CallFault) → Type 0
 MayBeTold limit None = Unit {0}

@@ -1,4 +1,4 @@
--- What goes on inside a mount's life: the states in which each fault that is told has its cause.
+-- What happens inside a mount's life: the states in which each fault that is reported has its cause.
 use Rattle.std.specs.Prelude.{◌≡◌, ℕ, Bool, Option, Some, None, Result, Ok, Err, ⊤}
 use Rattle.std.specs.List.{AllByRecursion}
 use Rattle.eden_model.specs.declared.id.Id.{Id}
@@ -27,14 +27,14 @@ use Rattle.eden_stdio_life.specs.Opening.{Closes, IsOpened, IsNotOpened}
 use Rattle.eden_stdio_life.specs.Serving.{Begins}
 
 module _ {W F : Type 0} (w : Ghosts W) (f : Files F W) where
-  -- a served caller's checkout was closed, and the first fault told
+  -- a served caller's checkout was closed, and the first fault reported
   pub record Ends {S : Type 0} (root : Id) (t : Checkout F) (tree : Tree) (N : Numbers) (source : S) (said : Result ⊤ SessionFault)
       (left : Ending F S) : Type 0 where
     pub files : Closes w f root t tree N left.unclosed left.backing.files
     pub source_left : left.backing.source ≡ source
     pub told : left.outcome ≡ first_life_fault said left.unclosed
 
-  -- the history copies replies or doesn't, and may become so long
+  -- the history copies replies or doesn't, and may become this long
   module _ {S : Type 0} (fetched : S → Id → Answer → S → Type 0) (copies : Bool) (limit : ℕ) where
     -- The overlay wasn't opened, for that fault: nothing was read or written, and the source wasn't asked.
     pub record IsUnservedInside (base : Base) (backing : Backing F S) (input output : Known × Known) (why : OpenFault) (left : Ending F S) : Type 0 where
@@ -45,8 +45,8 @@ module _ {W F : Type 0} (w : Ghosts W) (f : Files F W) where
       pub unclosed : left.unclosed ≡ None
 
     -- The overlay was opened, the caller served, and the overlay closed, however the session ended. A request wasn't taken
-    -- for the history's limit or for want of memory alone, and the files are the same commit's. Where the outside is honest,
-    -- the history is one of the opening tree with its numbers, what the files show is the tree after it, and where they were
+    -- for the history's limit or for want of memory alone, and the files are the same commit's. If the outside is honest,
+    -- the history is one of the opening tree with its numbers, what the files show is the tree after it, and if they were
     -- closed they back the numbers that it gave.
     pub record IsLivedInside (base : Base) (settings : Settings) (backing : Backing F S) (input output : Known × Known) (left : Ending F S) : Type 0 where
       pub begun : Desk (Checkout F) S

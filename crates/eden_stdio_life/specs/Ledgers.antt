@@ -24,7 +24,7 @@ pub record Ledger (S : Type 0) : Type 0 where
 abbrev pub ledger : {S : Type 0} → List Entry → S → Ledger S
 ledger history source = record { history = history; source = source }
 
--- the history may become so long
+-- the history may become this long
 module _ {S : Type 0} (fetched : S → Id → Answer → S → Type 0) (limit : ℕ) where
   -- A request was answered, and is one more entry of the history. For it the source was asked for at most one object for each
   -- place on its paths, and a fetch fault is of one that it was asked for and that failed so.

@@ -23,7 +23,7 @@ module _ {W F : Type 0} (w : Ghosts W) (f : Files F W) where
     pub closed : w.honest → (next : ℕ) × HoldsState (f.stored files) (record { root = root; next = next })
     pub opens : w.honest → CanOpen w.repository tree N root (f.stored files)
 
-  -- It wasn't closed, for that fault: the device is told only if it failed meanwhile. If the outside is honest no name dangles.
+  -- It wasn't closed, for that fault: the device is reported only if it failed meanwhile. If the outside is honest no name dangles.
   pub record IsLeftOpen (why : FilesFault) (old new : F) : Type 0 where
     pub device : why ≡ fault.Device → Rose (f.failures old) (f.failures new)
     pub sound : w.honest → AreSound (f.stored new)

@@ -17,13 +17,13 @@ use Rattle.eden_stdio_life.specs.declared.life.Ending.{Ending}
 use Rattle.eden_stdio_life.specs.Left.{HoldsTheSame, LeavesFiles}
 use Rattle.eden_stdio_life.specs.Ledgers.{LedgerAnswers, ledger}
 
--- the session's fault is told before that of the close
+-- the session's fault is reported before that of the close
 abbrev pub first_life_fault : Result ⊤ SessionFault → Option FilesFault → Result ⊤ LifeFault
 first_life_fault (Err fault) unclosed = Err (life.Session fault)
 first_life_fault (Ok _) (Some fault) = Err (life.Close fault)
 first_life_fault (Ok _) None = Ok tt
 
--- the history may become so long
+-- the history may become this long
 module _ {W F S : Type 0} (w : Ghosts W) (f : Files F W) (fetched : S → Id → Answer → S → Type 0) (limit : ℕ) where
   -- The overlay wasn't opened, and stays as it was: nothing was read or written, and the source wasn't asked.
   pub record IsUnserved (backing : Backing F S) (input output : Known × Known) (left : Ending F S) : Type 0 where

@@ -21,11 +21,11 @@ use Rattle.eden_checkout.specs.Opening.{CanOpen, Finds, files_show, IsRefusal}
 use Rattle.eden_stdio_life.specs.declared.opening.Base.{Base}
 
 module _ {W F : Type 0} (w : Ghosts W) (f : Files F W) where
-  -- where the outside is honest, what the checkout shows of inode numbers backs these
+  -- if the outside is honest, what the checkout shows of inode numbers backs these
   abbrev pub IsBacking : Numbers → Checkout F → Type 0
   IsBacking N t = w.honest → Backs N (shows_numbers f t.inodes) t.inodes.next
 
-  -- The files were opened so on that commit's tree, with the settings' cache, in which nothing is yet. Where the outside is
+  -- The files were opened so on that commit's tree, with the settings' cache, in which nothing is yet. If the outside is
   -- honest the checkout shows the opening tree, and numbers that back the opening ones.
   pub record IsOpened (base : Base) (settings : Settings) (files : F) (t : Checkout F) : Type 0 where
     pub commit : t.root ≡ base.root
@@ -39,14 +39,14 @@ module _ {W F : Type 0} (w : Ghosts W) (f : Files F W) where
     pub why : IsRefusal base.opening w.honest base.root (f.stored files) (f.failures files) (f.failures left) fault
     pub unchanged : w.honest → f.stored left ≡ f.stored files
 
-  -- A checkout of that commit was closed to the files. Where the outside is honest they hold its state, can be opened again
-  -- on the same commit's tree, show this tree, and back these numbers.
+  -- A checkout of that commit was closed to the files. If the outside is honest they hold its state, can be opened again on
+  -- the same commit's tree, show this tree, and back these numbers.
   pub record IsClosed (root : Id) (t : Checkout F) (tree : Tree) (N : Numbers) (files : F) : Type 0 where
     pub state : w.honest → HoldsState (f.stored files) (record { root = root; next = t.inodes.next })
     pub opens : w.honest → CanOpen w.repository tree N root (f.stored files)
 
   -- The checkout of that commit wasn't closed, for that fault. It is then another, over these files, which shows this tree
-  -- still. Where the outside is honest no name in the files dangles, and where no loaded directory is unsaved they show the
+  -- still. If the outside is honest no name in the files dangles, and if no loaded directory is unsaved they show the
   -- tree themselves.
   pub record StaysOpen (root : Id) (t : Checkout F) (tree : Tree) (why : FilesFault) (files : F) : Type 0 where
     pub left : Checkout F

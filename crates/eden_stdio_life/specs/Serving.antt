@@ -15,7 +15,7 @@ use Rattle.eden_wire.specs.Serving.{Known, Session}
 use Rattle.eden_stdio_life.specs.declared.serving.Served.{Served}
 use Rattle.eden_stdio_life.specs.Calls.{CallAnswers, MayBeTold}
 
--- a caller in whose mount of that room nothing has happened, and whose source wasn't asked; the history may become so long
+-- a caller in whose mount of that room nothing has happened, and whose source wasn't asked; the history may become this long
 pub record Begins {T S : Type 0} (r : Room) (limit : ℕ) (t : T) (s : S) (d : Desk T S) : Type 0 where
   pub core : d.core ≡ core_from t r.queue r.seats [] limit
   pub source : d.source ≡ s
@@ -24,7 +24,7 @@ pub record Begins {T S : Type 0} (r : Room) (limit : ℕ) (t : T) (s : S) (d : D
 module _ {S : Type 0} (fetched : S → Id → Answer → S → Type 0) {T : Type 0} (A : Table T) (honest : Type 0) (copies : Bool) (limit : ℕ) where
   -- The caller's session was served: the bytes that were read are its lines, and those that were written their answers'
   -- texts. A request wasn't taken for the history's limit or for want of memory alone, and what the mount was opened with stays.
-  -- Where the outside is honest, its history is one of the opening tree with its numbers, and the table shows the tree after
+  -- If the outside is honest, its history is one of the opening tree with its numbers, and the table shows the tree after
   -- it, and numbers that back those that it gave.
   pub record ServesCaller (opening : Tree) (numbers : Numbers) (r : Room) (t : T) (s : S) (input output : Known × Known) (x : Served T S) : Type 0 where
     pub begun : Desk T S

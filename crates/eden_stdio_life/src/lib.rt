@@ -1,7 +1,7 @@
 //! One caller served with changes: the mount of a checkout over an overlay, from its opening over its session to its
 //! close.
 //!
-//! Where the outside is honest, what was told are the replies of the commit's whole tree, changed by one request after
+//! If the outside is honest, what was told are the replies of the commit's whole tree, changed by one request after
 //! another, and files that were closed show the tree after them; they are closed after a fault too. What files hold
 //! after a power loss isn't promised, nor any time.
 #![tactic(auto)]

@@ -32,7 +32,7 @@ pub struct Backing<F, S> {
 pub struct Ending<F, S> {
     /// The files as they stand, and the source as its last answer left it.
     pub backing: Backing<F, S>,
-    /// Why the overlay wasn't closed, if it was open and wasn't closed; told too where the session's fault came first.
+    /// Why the overlay wasn't closed, if it was open and wasn't closed; reported too if the session's fault came first.
     pub unclosed: Option<FilesFault>,
     /// The first fault of opening, session and close.
     pub outcome: Result<(), LifeFault>,
@@ -54,8 +54,7 @@ fn first_fault(
     }
 }
 
-/// Closes the checkout of a served caller, however the session ended. Where that fails, the files are left as they
-/// stand.
+/// Closes the checkout of a served caller, however the session ended. If that fails, the files are left as they stand.
 fn end<W: World, S: Drop, A: Allocator + Clone, F: Files<W>>(
     alloc: Global,
     served: Served<Checkout<A, W, F>, S>,
@@ -79,12 +78,12 @@ fn end<W: World, S: Drop, A: Allocator + Clone, F: Files<W>>(
 /// Opens an overlay over a commit's tree, answers each line of the reader on the writer over it, and closes it.
 ///
 /// The session ends where the input does, or at a line that is no request. The overlay is closed after a session's
-/// fault too; only where the close fails are the files left without their state. What was told are the replies of the
-/// commit's whole tree, changed by one request after another, with the inode numbers that a `stat` may tell; files that
-/// were closed show the tree after them, and back those numbers. A request that isn't taken is told that the history is
-/// full at its limit, or that there is no memory.
+/// fault too; only if the close fails are the files left without their state. What was told are the replies of the
+/// commit's whole tree, changed by one request after another, with the inode numbers that a `stat` may return; files
+/// that were closed show the tree after them, and back those numbers. A request that isn't taken is told that the
+/// history is full at its limit, or that there is no memory.
 ///
-/// Errors are told in `outcome`, the first in the order opening, session, close. Where the overlay isn't opened,
+/// Errors are reported in `outcome`, the first in the order opening, session, close. If the overlay isn't opened,
 /// nothing is read or written, and `inside` says why it wasn't, as it says of each fault that was told what it came of.
 pub fn live<
     W: World,

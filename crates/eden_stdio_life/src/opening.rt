@@ -79,7 +79,7 @@ pub struct Closed<F> {
     pub unclosed: Option<FilesFault>,
 }
 
-/// Closes a checkout. Where that fails, the files are left as they stand. Files that were closed back the inode numbers
+/// Closes a checkout. If that fails, the files are left as they stand. Files that were closed back the inode numbers
 /// that the checkout backed.
 pub fn close<W: World, A: Allocator + Clone, F: Files<W>>(
     alloc: Global,

@@ -68,7 +68,7 @@ fn taking_away(rt: &impl Abort, ground: &Ground, life: &Life, seed: &mut u64) ->
     })
 }
 
-/// The path of the first so many of these names, and of that one in their directory.
+/// The path of the first this many of these names, and of that one in their directory.
 fn beside(rt: &impl Abort, ground: &Ground, at: &Path, names: usize, place: u8) -> Path {
     let mut parts = Vec::new(ground.alloc);
     for (depth, name) in at.as_slice().iter().enumerate() {
@@ -141,7 +141,7 @@ fn start(rt: &impl Abort, ground: &mut Ground, life: &mut Life, seed: &mut u64) 
     Met::Began
 }
 
-/// The pass goes on waiting, and not for what failed.
+/// The pass continues waiting, and not for what failed.
 fn wait(rt: &impl Abort, life: &mut Life, pass: u32, key: Key) -> Met {
     if let Some((failed, _)) = life.waits.mark(pass) {
         assert!(rt; failed != key, "a failed key");
@@ -166,7 +166,7 @@ fn fault(rt: &impl Abort, ground: &Ground, life: &mut Life, pass: u32, fault: Fa
     }
 }
 
-/// A reply is the oracle's, which goes on by it.
+/// A reply is the oracle's, which continues by it.
 fn reply(rt: &impl Abort, ground: &mut Ground, request: &Request, reply: &Reply) -> Met {
     follow(rt, ground, request, reply);
     match reply {
@@ -248,7 +248,7 @@ fn some_key(rt: &impl Abort, ground: &Ground, life: &Life, seed: &mut u64) -> Ke
     flight[(word / 8) as usize % flight.len()]
 }
 
-/// The key can't be had.
+/// The key is unavailable.
 fn fail_key(rt: &impl Abort, life: &mut Life, key: Key, cause: Cause) -> Met {
     let flies = life.waits.is_in_flight(key);
     assert!(rt; life.mount.fail(key, cause) == flies);
@@ -284,7 +284,7 @@ fn arrive(
     Met::Stored
 }
 
-/// What the repository has comes, or other bytes do. Where nothing is in flight, a key is taken first now and then.
+/// What the repository has comes, or other bytes do. If nothing is in flight, a key is taken first now and then.
 fn come(rt: &impl Abort, ground: &Ground, life: &mut Life, seed: &mut u64) -> Met {
     if life.waits.flight.is_empty() && random(seed) % 2 == 0 {
         take(rt, life);

@@ -34,7 +34,7 @@ pub(crate) struct Settings {
     pub(crate) history: u32,
 }
 
-/// A cache of so many objects.
+/// A cache of this many objects.
 fn cache(rt: &impl Abort, alloc: Global, objects: usize) -> ObjectCache<Global>
     ensures objects { result.objects ≡ [] }
     ensures sizes { result.sizes ≡ [] }

@@ -45,7 +45,7 @@ pub(crate) fn answer(
     None.expect(rt, "a reply")
 }
 
-/// The oracle allows a reply, and goes on by it.
+/// The oracle allows a reply, and continues by it.
 pub(crate) fn follow(rt: &impl Abort, ground: &mut Ground, request: &Request, reply: &Reply) {
     let allows = ground.tree.allows(ground.alloc, request, reply);
     assert!(rt; allows.expect(rt, "memory"), "{request:?}: {reply:?}");

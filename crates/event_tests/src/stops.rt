@@ -1,5 +1,5 @@
 //! All changes on a mount whose device stops at each call in turn: it works again for the next request, or never. What
-//! is left is opened by a rescan, and also, where the device works again, after a close.
+//! is left is opened by a rescan, and also, if the device works again, after a close.
 
 use crate::grounds::Ground;
 use crate::mounts::{Mounted, Settings, Stored, Unopened, close, open};
@@ -40,7 +40,7 @@ enum Device {
     Stopped,
 }
 
-/// Whether a change is answered as by the oracle, which goes on by it; else the device stopped it.
+/// Whether a change is answered as by the oracle, which continues by it; else the device stopped it.
 fn is_made(rt: &impl Abort, ground: &mut Ground, mount: &mut Mounted, change: &Request) -> bool {
     let copy = change.copy(ground.alloc).expect(rt, "memory");
     let reply = answer(rt, ground, mount, copy);
@@ -72,7 +72,7 @@ fn change(
     stopped
 }
 
-/// A mount of the commit over no files, of which so many calls pass; or the files that weren't opened.
+/// A mount of the commit over no files, of which this many calls pass; or the files that weren't opened.
 fn fresh(rt: &impl Abort, ground: &Ground, calls: u64) -> Result<Mounted, Stored> {
     let settings = Settings {
         root: ground.commit.root(),
@@ -104,7 +104,7 @@ fn take_away(rt: &impl Abort, ground: &mut Ground, at: &Path) {
     step(rt, ground, &Request::Rmdir(directory));
 }
 
-/// The entry that a stopped rename was to move stands in neither directory where the first was stored without it.
+/// The entry that a stopped rename was to move stands in neither directory if the first was stored without it.
 fn forget(rt: &impl Abort, ground: &mut Ground, from: &Path, files: Stored) -> Stored {
     let mut mount = mounted(rt, ground, Opening::Rescan, files);
     let at = from.copy(ground.alloc).expect(rt, "memory");
@@ -121,7 +121,7 @@ fn two_files(rt: &impl Abort, alloc: Global) -> Ground {
     Ground::over(rt, alloc, commit)
 }
 
-/// The files that are left without a close where the device stops once so many calls passed.
+/// The files that are left without a close if the device stops once this many calls passed.
 fn left(rt: &impl Abort, ground: &mut Ground, device: Device, calls: u64) -> Stored {
     let mut mount = match fresh(rt, ground, calls) {
         Ok(mount) => mount,
@@ -141,7 +141,7 @@ fn check_left(rt: &impl Abort, alloc: Global, device: Device, calls: u64) {
     show_same(rt, &mut ground, Opening::Rescan, files);
 }
 
-/// The device stops once so many calls passed, and works again for the next request.
+/// The device stops once this many calls passed, and works again for the next request.
 fn check_mend(rt: &impl Abort, alloc: Global, calls: u64) {
     let mut ground = two_files(rt, alloc);
     if let Ok(mut mount) = fresh(rt, &ground, calls) {
@@ -196,7 +196,7 @@ fn make(rt: &impl Abort, ground: &mut Ground, mount: &mut Mounted, lines: &[&str
     }
 }
 
-/// The device stops in a rename once so many calls passed, and then works again. Whether it stopped.
+/// The device stops in a rename once this many calls passed, and then works again. Whether it stopped.
 fn check_later(rt: &impl Abort, alloc: Global, calls: u64) -> bool {
     let mut ground = two_files(rt, alloc);
     let Ok(mut mount) = fresh(rt, &ground, u64::MAX) else {

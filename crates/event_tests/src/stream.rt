@@ -83,7 +83,7 @@ fn replay(rt: &impl Abort, ground: &Ground, life: &Life, tree: &mut WholeTree) {
     assert!(rt; life.mount.busy() == life.busy());
 }
 
-/// Files that were given up: they can be opened only where there are none.
+/// Files that were given up: they can be opened only if there are none.
 fn abandoned(rt: &impl Abort, ground: &Ground, mut files: Stored) {
     let numbers = files.list(ground.alloc).expect(rt, "numbers");
     let settings = Settings {
@@ -100,7 +100,7 @@ fn abandoned(rt: &impl Abort, ground: &Ground, mut files: Stored) {
     }
 }
 
-/// The mount's end. The files, where it was closed.
+/// The mount's end. The files, if it was closed.
 fn end(
     rt: &impl Abort,
     ground: &mut Ground,
@@ -121,7 +121,7 @@ fn end(
     Some(show_same(rt, ground, Opening::Closed, files))
 }
 
-/// One mount over these files. The files, where it was closed.
+/// One mount over these files. The files, if it was closed.
 fn live_once(
     rt: &impl Abort,
     ground: &mut Ground,

@@ -68,7 +68,7 @@ impl Waits {
         self.marks[seat(pass)] = None;
     }
 
-    /// The oldest queued key goes into flight, where there is room for so many.
+    /// The oldest queued key goes into flight, if there is room for this many.
     pub(crate) fn take(&mut self, rt: &impl Abort, flights: usize) -> Option<Key> {
         if self.flight.len() >= flights || self.queue.is_empty() {
             return None;
@@ -88,7 +88,7 @@ impl Waits {
         }
     }
 
-    /// The key can't be had.
+    /// The key is unavailable.
     pub(crate) fn failed(&mut self, key: Key, cause: Cause) {
         for seat in 0..SEATS {
             if self.wants[seat] == Some(key) {

@@ -31,7 +31,7 @@ enum Row {
     /// These bytes come for the object, which are another.
     Lies(Sample, &'static [u8]),
     Fails(Sample, Cause, bool),
-    /// Everything may go, and so many directories do.
+    /// Everything may go, and this many directories do.
     Unloads(u64),
     /// The files are waited for, which goes or doesn't.
     Syncs(bool),
@@ -174,7 +174,7 @@ fn over(rt: &impl Abort, alloc: Global, files: Stored, settings: Settings) -> Gr
     Ground { mount, calls }
 }
 
-/// A mount over no files with so many objects cached, and a history of at most so many entries.
+/// A mount over no files with this many objects cached, and a history of at most this many entries.
 fn fresh(rt: &impl Abort, alloc: Global, root: Sample, objects: usize, history: u32) -> Ground {
     let settings = Settings {
         root: root.id,
@@ -188,7 +188,7 @@ fn fresh(rt: &impl Abort, alloc: Global, root: Sample, objects: usize, history: 
 /// A commit, how many objects are cached, and what happens on a mount of it.
 type Worked = (Sample, usize, &'static [Row]);
 
-/// A request that waits looks again from the root once it goes on, if a name has changed meanwhile.
+/// A request that waits looks again from the root once it continues, if a name has changed meanwhile.
 const MOVED_AWAY: Worked = (
     TWO_FILES,
     4,
@@ -207,7 +207,7 @@ const MOVED_AWAY: Worked = (
     ],
 );
 
-/// .. so it does where a name that came has moved its own to another position.
+/// .. so it does if a name that came has moved its own to another position.
 const MOVED_ON: Worked = (
     TWO_FILES,
     4,
@@ -230,7 +230,7 @@ const MOVED_ON: Worked = (
     ],
 );
 
-/// .. and where a name that went has moved another to its position.
+/// .. and if a name that went has moved another to its position.
 const MOVED_BACK: Worked = (
     TWO_FILES,
     4,
@@ -255,7 +255,7 @@ const MOVED_BACK: Worked = (
     ],
 );
 
-/// A request of two paths goes on along the second.
+/// A request of two paths continues along the second.
 const TWO_PATHS: Worked = (
     TWO_FILES,
     4,
@@ -318,7 +318,7 @@ const ONE_FAILURE: Worked = (
     ],
 );
 
-/// A failure is dropped where the object came after it.
+/// A failure is dropped if the object came after it.
 const COMES_AFTER_ALL: Worked = (
     ONE_FILE,
     4,
@@ -476,8 +476,8 @@ const TWO_DIRECTORIES: &[Row] = &[
     Done(1, 4, "entries 0 end\n"),
 ];
 
-/// The store of the first directory passes, and that of the second fails: nothing has moved. The first can't be let go,
-/// since it can't be stored.
+/// The store of the first directory passes, and that of the second fails: nothing has moved. The first can't be
+/// unloaded, since it can't be stored.
 const HALF_A_MOVE: &[Row] = &[
     Start(1, "rename /d/a /e/a"),
     Done(1, 5, "fault overlay\n"),

@@ -57,7 +57,7 @@ const BDF: &[u8] = b"\0\0\0\x03\
 
 // A directory's body, the name that changes, what it is to be, and the body with that.
 const CHANGES: &[(&[u8], &[u8], Wanted, &[u8])] = &[
-    // Before all, between two, and behind all.
+    // Before all, between two, and after all.
     (
         BDF,
         b"a",

@@ -19,7 +19,7 @@ const NOTED: &[u8] = b"\
     \x00\x00\x00\x00\x00\x00\x00\x05\x00\x00\x00\x00\x00\x00\x00\x00\x00\x00\x00\x00\x00\x00\x00\x06\
     \x00\x00\x00\x01\x61\x62";
 
-// The same, and that it changed: after the record at 0, a count of 2, and `x` between a byte in front and one behind.
+// The same, and that it changed: after the record at 0, a count of 2, and `x` between a byte in front and one after.
 const CHANGED: &[u8] = b"\
     \x09\xee\x5b\x38\xb7\xe5\x01\x3b\x68\x4d\x08\xfe\x47\x05\xb9\x11\xf7\x5b\xf6\x8f\
     \x4f\x56\x4a\x44\
@@ -45,7 +45,7 @@ const MISPLACED: &[u8] = b"\
     \x00\x00\x00\x02\
     \x78";
 
-// The same, but of two bytes two stay in front and one behind.
+// The same, but of two bytes two stay in front and one after.
 const TOO_LONG: &[u8] = b"\
     \x09\xee\x5b\x38\xb7\xe5\x01\x3b\x68\x4d\x08\xfe\x47\x05\xb9\x11\xf7\x5b\xf6\x8f\
     \x4f\x56\x4a\x44\
@@ -58,7 +58,7 @@ const TOO_LONG: &[u8] = b"\
     \x00\x00\x00\x02\
     \x78";
 
-// The same, but of one byte that goes in front, and one that comes behind the other.
+// The same, but of one byte that goes in front, and one that comes after the other.
 const MOVED: &[u8] = b"\
     \x09\xee\x5b\x38\xb7\xe5\x01\x3b\x68\x4d\x08\xfe\x47\x05\xb9\x11\xf7\x5b\xf6\x8f\
     \x4f\x56\x4a\x44\
@@ -158,8 +158,8 @@ const DIGEST: [u8; 20] = [
     0xd7, 0x60, 0x3c, 0xf5,
 ];
 
-// What stands behind the digest and the time of the last record: the place of the one before, the bytes that stay in
-// front and behind, the count, and the byte that changed.
+// What stands after the digest and the time of the last record: the place of the one before, the bytes that stay in
+// front and after, the count, and the byte that changed.
 const LAST: &[u8] = b"\x00\x00\x00\x00\x00\x00\x00\x1d\
     \x00\x00\x00\x00\x00\x00\x08\x99\x00\x00\x00\x00\x00\x00\x07\xcb\x00\x00\x00\x00\x00\x00\x00\x00\
     \x08\x07\x07\x07\x08";
@@ -185,7 +185,7 @@ fn changes_often<F: Files<Outside>>(files: &mut F, alloc: Global, body: &mut [u8
     true
 }
 
-// File 9 has these bytes, and has them once the folder is opened again.
+// File 9 has these bytes, and has them once the directory is opened again.
 fn find_nine<F: Files<Outside>>(
     rt: &impl Abort,
     system: &HostRuntime,
@@ -205,7 +205,7 @@ fn has_nine<F: Files<Outside>>(files: F, alloc: Global, want: &[u8]) -> bool {
     reads(&mut files, alloc, 9, want)
 }
 
-// The folder's journal has records of that many bytes, and those at their end.
+// The directory's journal has records of that many bytes, and those at their end.
 fn end_in(rt: &impl Abort, system: &HostRuntime, folder: &PathBuf, len: usize, end: &[u8]) {
     let records = records_of(rt, system, folder, len);
     require(rt, records.ends_with(end), "the last record");
@@ -228,7 +228,7 @@ fn what_changes_in_a_directory_is_noted_alone(rt: HostRuntime) {
     remove(&rt, folder).expect(&rt, "a folder");
 }
 
-// The SHA-1 of a count of 250 and 250 rows, each its number in 8 bytes, of which row 5 stands behind row 200.
+// The SHA-1 of a count of 250 and 250 rows, each its number in 8 bytes, of which row 5 stands after row 200.
 const MOVED_DIGEST: [u8; 20] = [
     0x30, 0xa9, 0x76, 0xe4, 0xdb, 0x12, 0xdb, 0xb5, 0xff, 0x92, 0x40, 0xa9, 0xaa, 0x00, 0x7f, 0xaf,
     0x5e, 0x9c, 0x4f, 0x2c,

@@ -45,7 +45,7 @@ const DEVICE: Outcome = Err(FolderFault::Device);
 
 const MEMORY: Outcome = Err(FolderFault::Memory);
 
-// The most bytes that are wanted of a file, and what a read gives where links are refused and where they are followed.
+// The most bytes that are wanted of a file, and what a read gives if links are refused and if they are followed.
 const READS: &[(&str, u32, Outcome, Outcome)] = &[
     ("file", 5, HELLO, HELLO),
     ("file", 4, TOO_LONG, TOO_LONG),
@@ -83,7 +83,7 @@ fn gives(rt: &HostRuntime, path: &str, links: Links, longest: u32, want: Outcome
     is_outcome(answer, want)
 }
 
-// Whether reads give the one where links are refused, and the other where they are followed.
+// Whether reads give the one if links are refused, and the other if they are followed.
 fn give(
     rt: &HostRuntime,
     path: &PathBuf,
@@ -124,7 +124,7 @@ fn path_of(rt: &HostRuntime, pipe: &PipeReader) -> Result<String, AllocError> {
     format!(in rt.alloc(); "/proc/self/fd/{}", pipe.as_raw_fd())
 }
 
-// A folder with a file of these bytes.
+// A directory with a file of these bytes.
 fn folder_with(
     rt: &HostRuntime,
     folder: &str,
@@ -205,7 +205,7 @@ impl Read for Breaking {
     }
 }
 
-// Whether a read within so many bytes, where less are expected, gives that.
+// Whether a read within this many bytes, if less are expected, gives that.
 fn gives_within<R: Read + Drop>(
     alloc: Global,
     reader: R,
@@ -265,7 +265,7 @@ fn replaces_over_links(rt: &HostRuntime, file: &str, new: &PathBuf) -> bool {
     true
 }
 
-// Whether the file stays as it is where it can't be replaced.
+// Whether the file stays as it is if it can't be replaced.
 fn stays(rt: &HostRuntime, file: &str, bytes: &[u8]) -> bool {
     replace_file(
         rt,
@@ -321,7 +321,7 @@ const KINDS: &[(ErrorKind, FolderFault, FolderFault)] = &[
     ),
 ];
 
-// Whether a replacement answers that fault, and leaves the file, where one of its calls fails with that kind of error.
+// Whether a replacement answers that fault, and leaves the file, if one of its calls fails with that kind of error.
 fn keeps_old(
     rt: &HostRuntime,
     path: &str,
@@ -408,7 +408,7 @@ fn item_of(item: io::Result<Listed<'_>>) -> Item {
     }
 }
 
-// The file `a` is found beside a name that isn't UTF-8, and the listing fails where the folder does.
+// The file `a` is found beside a name that isn't UTF-8, and the listing fails if the directory does.
 fn lists_one(rt: &HostRuntime, folder: &PathBuf, call: Call) -> Result<bool, FolderFault> {
     let system = system(rt, call, ErrorKind::Other, None);
     let mut items = fs::read_dir(&system, folder.as_path())?;

@@ -1,4 +1,4 @@
-//! Folders that tests work in, made by tables of what is to be in them.
+//! Directories that tests work in, made by tables of what is to be in them.
 use std::os::unix::fs::symlink;
 use std::path::PathBuf;
 use std::{fs, io};
@@ -41,14 +41,14 @@ fn make_all(rt: &HostRuntime, folder: &PathBuf, table: &[(&str, Made)]) -> io::R
     Ok(())
 }
 
-/// A folder of that name, which was empty, with all that the table has.
+/// A directory of that name, which was empty, with all that the table has.
 pub fn folder_of(rt: &HostRuntime, name: &str, table: &[(&str, Made)]) -> io::Result<PathBuf> {
     let folder = empty_folder(rt, name)?;
     make_all(rt, &folder, table)?;
     Ok(folder)
 }
 
-/// Removes the folder and all that is in it.
+/// Removes the directory and all that is in it.
 pub fn remove(rt: &HostRuntime, folder: PathBuf) -> io::Result<()> {
     fs::remove_dir_all(rt, folder.as_path())
 }
@@ -63,7 +63,7 @@ pub fn damage(rt: &HostRuntime, folder: &PathBuf, name: &str) -> io::Result<()> 
     fs::write(rt, path.as_path(), bytes.as_slice())
 }
 
-/// Whether something in the folder has the name; None where that isn't known.
+/// Whether something in the directory has the name; None if that isn't known.
 pub fn has(rt: &HostRuntime, folder: &PathBuf, name: &str) -> Option<bool> {
     let path = folder.join(rt.alloc(), name).ok()?;
     fs::exists(rt, path.as_path()).ok()

@@ -101,7 +101,7 @@ fn empty_contents(rt: HostRuntime) {
     require(&rt, empty == want && empty.len() == 64, "written");
 }
 
-/// Whether the bytes are room for a header, which is zeros, and those behind it.
+/// Whether the bytes are room for a header, which is zeros, and those after it.
 fn is_unsealed(bytes: &[u8], body: &[u8]) -> bool {
     match bytes.split_first_chunk::<64>() {
         Some((room, behind)) => *room == [0; 64] && behind == body,
@@ -334,7 +334,7 @@ fn written(rt: &impl Abort, alloc: Global, origin: Origin) -> Vec<u8>
     file
 }
 
-/// The body of that directory, where the file's content is its own.
+/// The body of that directory, if the file's content is its own.
 pub const OWN_BODY: &[u8] = b"\x00\x00\x00\x01\x00\x01\x00\x00\x00\x00\x00\x00\x00\x02\x08test.txt";
 
 /// The SHA-1 of that body.

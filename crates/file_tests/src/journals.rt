@@ -1,4 +1,4 @@
-//! Files with a journal over them: in memory, in a folder, cut, and stopped in the middle.
+//! Files with a journal over them: in memory, in a directory, cut, and stopped in the middle.
 use crate::folders::{Made, folder_of, has, make, remove};
 use crate::kinds::{Answer, Call, SIXTY_FOUR, SIXTY_SIX, ask_all, behave};
 use crate::steps::{Step, fills, follow, follow_with, is_filled, of_length};
@@ -27,14 +27,14 @@ fn in_memory(alloc: Global) -> InMemory {
     Journaled::new(MemoryFiles::new(alloc), MemoryJournal::new(alloc))
 }
 
-// The files of the folder, as an opening finds them.
+// The files of the directory, as an opening finds them.
 pub fn opened(rt: &HostRuntime, folder: &PathBuf) -> Result<InFolder, FilesFault> {
     let path = folder.clone()?;
     let journal = FolderJournal::open(*rt, rt.alloc(), folder)?;
     taken_in::<Outside, _, _>(rt.alloc(), FolderFiles::new(*rt, path), journal)
 }
 
-// The steps are so over the files of the folder, as an opening finds them.
+// The steps are so over the files of the directory, as an opening finds them.
 pub fn follow_opened(rt: &impl Abort, system: &HostRuntime, folder: &PathBuf, steps: &[Step]) {
     follow_with(
         rt,
@@ -75,7 +75,7 @@ fn a_journal_in_a_folder_behaves(rt: HostRuntime) {
     }
 }
 
-// What a folder has with a file 3.
+// What a directory has with a file 3.
 const THREE: &[(&str, Made)] = &[("3", Made::File(b"3"))];
 
 // Changes, of which the records take 48 + 64, 48 + 2, 48, 48 + 66 and 48 bytes; no numbered file has changed then.
@@ -132,17 +132,17 @@ pub fn write_journal(rt: &HostRuntime, folder: &PathBuf, journal: &[u8]) -> io::
     fs::write(rt, path.as_path(), journal)
 }
 
-// A folder with a file 3, and these bytes as its journal.
+// A directory with a file 3, and these bytes as its journal.
 fn left(rt: &impl Abort, system: &HostRuntime, name: &str, journal: &[u8]) -> PathBuf {
     let folder = folder_of(system, name, THREE).expect(rt, "a folder");
     write_journal(system, &folder, journal).expect(rt, "a journal");
     folder
 }
 
-// The least that stands behind the records of a journal that is written, zeros.
+// The least that stands after the records of a journal that is written, zeros.
 const RESERVE: usize = 64 << 10;
 
-// Whether the reserve stands behind records of that many bytes.
+// Whether the reserve stands after records of that many bytes.
 fn has_reserve(journal: &[u8], len: usize) -> bool {
     match journal.split_at_checked(len) {
         Some((_, reserve)) => reserve.len() >= RESERVE && are_zeros(reserve),
@@ -164,7 +164,7 @@ fn journal_of(rt: &HostRuntime, folder: &PathBuf) -> io::Result<Vec<u8>> {
     fs::read(rt, path.as_path())
 }
 
-// The records of the folder's journal, which have that many bytes, with the reserve behind them.
+// The records of the directory's journal, which have that many bytes, with the reserve after them.
 pub fn records_of(rt: &impl Abort, system: &HostRuntime, folder: &PathBuf, len: usize) -> Vec<u8> {
     let mut journal = journal_of(system, folder).expect(rt, "a journal");
     require(
@@ -201,7 +201,7 @@ fn a_cut_journal_is_taken_in_up_to_the_cut(rt: HostRuntime) {
     require(&rt, journal.len() == 372, "all of the journal");
 }
 
-// Zeros behind the records, be it as many as a record's fields have, end them.
+// Zeros after the records, be it as many as a record's fields have, end them.
 #[test]
 fn a_journal_with_a_reserve_is_taken_in(rt: HostRuntime) {
     let mut journal = changes_left(&rt, &rt);
@@ -211,7 +211,7 @@ fn a_journal_with_a_reserve_is_taken_in(rt: HostRuntime) {
     }
 }
 
-// The folder's journal notes that file 9 is stored.
+// The directory's journal notes that file 9 is stored.
 fn note_nine(rt: &impl Abort, system: &HostRuntime, folder: &PathBuf) {
     let mut journal = FolderJournal::open(*system, system.alloc(), folder).expect(rt, "a journal");
     let answer = Journal::<Outside>::store(&mut journal, system.alloc(), 9, b"9");
@@ -226,7 +226,7 @@ const DONE_AND_NINE: &[Step] = &[
     Step::Gives(Call::Read(9), Answer::Bytes(Some(b"9"))),
 ];
 
-// As after a kill, by a run that goes on in it: the record stands behind the others, and its reserve behind it.
+// As after a kill, by a run that continues in it: the record stands after the others, and its reserve after it.
 #[test]
 fn a_journal_with_a_reserve_goes_on(rt: HostRuntime) {
     let mut journal = changes_left(&rt, &rt);
@@ -248,7 +248,7 @@ fn a_damaged_journal_is_taken_in_up_to_the_damage(rt: HostRuntime) {
     }
 }
 
-// An opening of files of which so many calls are done.
+// An opening of files of which this many calls are done.
 fn stopped(
     rt: &impl Abort,
     system: &HostRuntime,
@@ -308,7 +308,7 @@ const PASSED_OVER: &[Step] = &[
     NO_JOURNAL,
 ];
 
-// As where a program that knows of no journals closed what a later one left.
+// As when a program that knows of no journals closed what a later one left.
 #[test]
 fn a_journal_beside_a_state_is_passed_over(rt: HostRuntime) {
     let folder = left(&rt, &rt, "journal-closed", &changes_left(&rt, &rt));
@@ -317,13 +317,13 @@ fn a_journal_beside_a_state_is_passed_over(rt: HostRuntime) {
     remove(&rt, folder).expect(&rt, "a folder");
 }
 
-// When the folder's file of that name was written last.
+// When the directory's file of that name was written last.
 fn when_written(rt: &HostRuntime, folder: &PathBuf, name: &str) -> io::Result<SystemTime> {
     let path = folder.join(rt.alloc(), name)?;
     fs::metadata(rt, path.as_path())?.modified()
 }
 
-// When a store of file 5 in the folder began and ended.
+// When a store of file 5 in the directory began and ended.
 fn store_five(rt: &impl Abort, system: &HostRuntime, folder: &PathBuf) -> (SystemTime, SystemTime) {
     let mut files = opened(system, folder).expect(rt, "files");
     let before = SystemTime::now(system).expect(rt, "a time");
@@ -385,7 +385,7 @@ fn the_state_and_long_files_are_stored_at_once(rt: HostRuntime) {
     remove(&rt, folder).expect(&rt, "a folder");
 }
 
-// A system of which that call fails as where the disk is full.
+// A system of which that call fails as when the disk is full.
 fn failing(rt: &HostRuntime, call: SystemCall) -> FaultySystem<'static, HostRuntime> {
     FaultySystem {
         files: *rt,
@@ -397,7 +397,7 @@ fn failing(rt: &HostRuntime, call: SystemCall) -> FaultySystem<'static, HostRunt
 
 type FaultyJournal = FolderJournal<FaultySystem<'static, HostRuntime>>;
 
-// The folder's journal, over such a system.
+// The directory's journal, over such a system.
 fn failing_journal(
     rt: &impl Abort,
     system: &HostRuntime,
@@ -409,7 +409,7 @@ fn failing_journal(
 
 type FaultyFiles = FolderFiles<FaultySystem<'static, HostRuntime>>;
 
-// The folder's files, over such a system.
+// The directory's files, over such a system.
 fn failing_files(
     rt: &impl Abort,
     system: &HostRuntime,
@@ -419,7 +419,7 @@ fn failing_files(
     FolderFiles::new(failing(system, call), folder.clone().expect(rt, "memory"))
 }
 
-// The steps are so over the folder's files and journal, where the one call of the files' system fails, and the other of
+// The steps are so over the directory's files and journal, if the one call of the files' system fails, and the other of
 // the journal's.
 fn follow_failing(
     rt: &impl Abort,
@@ -434,7 +434,7 @@ fn follow_failing(
     follow_with(rt, system, folder, files, steps)
 }
 
-// What a folder has with a file 5.
+// What a directory has with a file 5.
 const FIVE: &[(&str, Made)] = &[("5", Made::File(b"5"))];
 
 const REFUSED: &[Step] = &[
@@ -513,7 +513,7 @@ const STORED: &[Step] = &[
     Step::Gives(Call::Read(8), Answer::Bytes(Some(b"8"))),
 ];
 
-// The steps are so where the fourth call of the files fails.
+// The steps are so if the fourth call of the files fails.
 fn follow_losing(
     rt: &impl Abort,
     system: &HostRuntime,
@@ -527,9 +527,9 @@ fn follow_losing(
     follow_with(rt, system, folder, Journaled::new(files, journal), steps)
 }
 
-// A close whose wait for all files fails, as it does for good once the disk lost something: where the disk takes the
-// names of what is stored, that is enough, and else it is told, and the journal stays. The calls of the files: a wait
-// for the disk, two stores, and the wait that fails.
+// A close whose wait for all files fails, as it does for good once the disk lost something: if the disk takes the names
+// of what is stored, that is enough, and else it is told, and the journal stays. The calls of the files: a wait for the
+// disk, two stores, and the wait that fails.
 #[test]
 fn a_close_waits_for_what_it_stores(rt: HostRuntime) {
     for (of_journal, steps) in CLOSES {
@@ -585,7 +585,7 @@ fn go_on_full<F: Files<Outside>>(
     follow(rt, system, folder, &mut files, ONE_FAILED);
 }
 
-// The same of the folder's files and journal.
+// The same of the directory's files and journal.
 fn go_on_full_in(rt: &impl Abort, system: &HostRuntime, folder: &PathBuf) {
     let left = Rc::new(system.alloc(), Cell::new(1_000)).expect(rt, "memory");
     let counted = left.clone().expect(rt, "memory");
@@ -736,7 +736,7 @@ const GOES_PAST: &[Step] = &[
     NO_JOURNAL,
 ];
 
-// Where the journal can't be written, what it had goes into the files, and the change too.
+// If the journal can't be written, what it had goes into the files, and the change too.
 #[test]
 fn a_change_goes_past_a_failing_journal(rt: HostRuntime) {
     for call in &[SystemCall::Open, SystemCall::Write] {

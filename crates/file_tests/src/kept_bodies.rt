@@ -23,7 +23,7 @@ type Rows = &'static [(u8, u8, u8)];
 // A body of 256 bytes, the shortest that is kept.
 const FOUR: Rows = &[(b'b', 52, 2), (b'd', 52, 3), (b'f', 52, 4), (b'h', 52, 5)];
 
-// The same with one row more between others, and behind them.
+// The same with one row more between others, and after them.
 const WITH_C: Rows = &[
     (b'b', 52, 2),
     (b'c', 52, 9),
@@ -77,7 +77,7 @@ enum Step {
     Put(u64, Rows, Result<(), FilesFault>),
     // The entry of 52 such letters becomes a file of that number, or goes: what comes of it.
     Change(u64, u8, Option<u8>, Result<bool, FilesFault>),
-    // The entry of 52 such letters gets so many of another one for its name, and becomes a file of that number: what
+    // The entry of 52 such letters gets this many of another one for its name, and becomes a file of that number: what
     // comes of it.
     Rename(u64, u8, u8, u8, Result<bool, FilesFault>),
     // The stored directory of that number has these rows.
@@ -86,7 +86,7 @@ enum Step {
     Lacks(u64, GetFault),
     // Another file is stored, or one is removed.
     Do(Deed),
-    // So many calls on the files pass from now on.
+    // This many calls on the files pass from now on.
     Allow(u64),
 }
 
@@ -376,7 +376,7 @@ const SCRIPTS: &[(&str, &[Step])] = &[
     ),
 ];
 
-// So many of the letter.
+// This many of the letter.
 fn letters(all: &[u8; 255], times: u8) -> &[u8] {
     &all[..usize::from(times)]
 }
@@ -391,7 +391,7 @@ fn body_of(rt: &impl Abort, alloc: Global, rows: Rows) -> Vec<u8> {
     body
 }
 
-// Writes the row of a file that is the mount's own, whose name has so many of the letter.
+// Writes the row of a file that is the mount's own, whose name has this many of the letter.
 fn put_row(body: &mut Vec<u8>, letter: u8, times: u8, number: u8) -> Result<(), AllocError> {
     body.extend_from_slice(&[0, 1, 0, 0, 0, 0, 0, 0, 0, number, times])?;
     body.extend_from_slice(letters(&[letter; 255], times))
@@ -442,7 +442,7 @@ fn change(
     outcome
 }
 
-// What comes of it where the entry of 52 such letters gets another name.
+// What comes of it if the entry of 52 such letters gets another name.
 fn rename(
     rt: &impl Abort,
     overlay: &mut Stopping,
@@ -567,7 +567,7 @@ fn all_go(
     true
 }
 
-// An overlay without files, of which so many calls pass.
+// An overlay without files, of which this many calls pass.
 fn opened(rt: &impl Abort, alloc: Global, allowed: &Rc<Cell<u64>>) -> Stopping {
     let counted = allowed.clone().expect(rt, "memory");
     let files = StopFiles::new(MemoryFiles::<Outside>::new(alloc), counted);
@@ -606,7 +606,7 @@ const WITH_C_DIGEST: [u8; 20] = [
     0x70, 0xce, 0xe3, 0x97,
 ];
 
-// The file 1 of an overlay after these steps; None where one doesn't go as it says.
+// The file 1 of an overlay after these steps; None if one doesn't go as it says.
 fn left_by(rt: &impl Abort, alloc: Global, steps: &[Step]) -> Option<Vec<u8>> {
     let allowed = Rc::new(alloc, Cell::new(u64::MAX)).expect(rt, "memory");
     let mut overlay = opened(rt, alloc, &allowed);

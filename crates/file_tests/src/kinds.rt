@@ -1,4 +1,4 @@
-//! The kinds of files that an overlay stands on: in memory, in a folder, and failing ones.
+//! The kinds of files that an overlay stands on: in memory, in a directory, and failing ones.
 use crate::folders::{Made, folder_of, has, remove};
 use crate::told::require;
 use eden_model::Outside;
@@ -17,7 +17,7 @@ use test_samples::{Call as SystemCall, FaultySystem};
 pub enum Call<'a> {
     Read(u64),
     Head(u64),
-    // From there on, and at most so many.
+    // From there on, and at most this many.
     Part(u64, u64, u64),
     Replace(u64, &'a [u8]),
     ReplaceJoined(u64, &'a [u8], &'a [u8]),
@@ -272,7 +272,7 @@ fn memory_behaves(rt: HostRuntime) {
     );
 }
 
-// How many failures files in the folder count that give those answers.
+// How many failures files in the directory count that give those answers.
 fn failures_in(
     rt: &impl Abort,
     system: &HostRuntime,
@@ -360,7 +360,7 @@ fn failing(
     }
 }
 
-// The folder's files, where that call of the system fails so.
+// The directory's files, if that call of the system fails so.
 fn failing_in(
     rt: &impl Abort,
     system: &HostRuntime,
@@ -391,7 +391,7 @@ fn length_of<F: Files<Outside>>(
     length
 }
 
-// The same of a file in the folder, where that call of the system finds no memory.
+// The same of a file in the directory, if that call of the system finds no memory.
 fn length_in(
     rt: &impl Abort,
     system: &HostRuntime,
@@ -513,7 +513,7 @@ const STORED: &[(Call, Answer)] = &[(Call::Replace(5, b"old"), Answer::Done)];
 
 const KEPT: &[(Call, Answer)] = &[(Call::Read(5), Answer::Bytes(Some(b"old")))];
 
-// The call fails so where those of the system fail, file 5 stays, and nothing is left beside it.
+// The call fails so if those of the system fail, file 5 stays, and nothing is left beside it.
 fn fail_at(rt: &impl Abort, system: &HostRuntime, folder: &PathBuf, call: SystemCall, ask: Ask) {
     let files = failing_in(rt, system, folder, call, ErrorKind::ConnectionReset);
     require(
@@ -555,7 +555,7 @@ const ONE_FAILS: &[(u64, [bool; 4], &[u64])] = &[
     (5, [false, false, false, false], &[]),
 ];
 
-// Whether those calls fail where that one does, and are counted.
+// Whether those calls fail if that one does, and are counted.
 fn one_fails<F: Files<Outside>>(files: &mut F, alloc: Global, want: [bool; 4]) -> bool {
     failing_calls(files, alloc) == want && (files.failures() == 1) == want.contains(&true)
 }
@@ -566,7 +566,7 @@ fn leaves<F: Files<Outside>>(files: F, alloc: Global, left: &'static [u64]) -> b
     gives(&mut files, alloc, Call::List, Answer::Numbers(left))
 }
 
-// Whether those calls fail where that one does, and that is left.
+// Whether those calls fail if that one does, and that is left.
 fn one_fails_and_leaves(alloc: Global, call: u64, want: [bool; 4], left: &'static [u64]) -> bool {
     let mut files = FailingFiles::new(MemoryFiles::<Outside>::new(alloc), call);
     let fails = one_fails(&mut files, alloc, want);
@@ -588,7 +588,7 @@ const STOPS: &[(u64, [bool; 4], u64)] = &[
     (4, [false, false, false, false], 8),
 ];
 
-// Those calls fail where so many are allowed, all of which are used up then.
+// Those calls fail if this many are allowed, all of which are used up then.
 fn stop<F: Files<Outside>>(rt: &impl Abort, alloc: Global, files: &mut F, allowed: &Cell<u64>) {
     for (calls, want, failures) in STOPS {
         allowed.set(*calls);

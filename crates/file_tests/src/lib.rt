@@ -1,5 +1,5 @@
-//! Worked rows of files, sources, overlays and what they store, over real folders and over systems that fail, and of
-//! directories in memory, so that no library below is proved a second time for them.
+//! Worked rows of files, sources, overlays and what they store, over real directories and over systems that fail, and
+//! of directories in memory, so that no library below is proved a second time for them.
 #![tactic(auto)]
 
 #[cfg(test)]

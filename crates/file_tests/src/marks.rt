@@ -11,7 +11,7 @@ use std::path::PathBuf;
 use std::process::Abort;
 use test_samples::{Call as SystemCall, FaultySystem};
 
-// A run over an empty folder, which stores a file and is closed.
+// A run over an empty directory, which stores a file and is closed.
 const FIRST: &[(Call, Answer)] = &[
     (Call::List, Answer::Numbers(&[])),
     (Call::Replace(5, b"five"), Answer::Done),
@@ -42,13 +42,13 @@ const BESIDE: &[(Call, Answer)] = &[(Call::Replace(8, b"eight"), Answer::Done)];
 // One that asks for the disk, but doesn't open what is there.
 const NOT_OPENED: &[(Call, Answer)] = &[(Call::Sync, Answer::Device)];
 
-// A run over the folder gives those answers to the calls.
+// A run over the directory gives those answers to the calls.
 fn run(rt: &impl Abort, system: &HostRuntime, folder: &PathBuf, calls: &[(Call, Answer)]) {
     let path = folder.clone().expect(rt, "memory");
     failures_of(rt, system.alloc(), FolderFiles::new(system, path), calls);
 }
 
-// A system that tells no folder's names.
+// A system that tells no directory's names.
 fn blind(rt: &HostRuntime) -> FaultySystem<'static, HostRuntime> {
     FaultySystem {
         files: *rt,
@@ -69,7 +69,7 @@ fn run_blind(rt: &impl Abort, system: &HostRuntime, folder: &PathBuf, calls: &[(
     );
 }
 
-// What happens to the folder between two runs.
+// What happens to the directory between two runs.
 #[derive(Clone, Copy)]
 enum Between {
     Nothing,
@@ -108,7 +108,7 @@ fn remove_mark(rt: &HostRuntime, folder: &PathBuf) -> io::Result<()> {
     fs::remove_file(rt, mark.as_path())
 }
 
-// Does that to the folder.
+// Does that to the directory.
 fn change(
     rt: &impl Abort,
     system: &HostRuntime,
@@ -128,7 +128,7 @@ fn change(
     }
 }
 
-// What the next run does that asks for the disk: its wait succeeds, or wants the folder's names.
+// What the next run does that asks for the disk: its wait succeeds, or wants the directory's names.
 const MARKED: &[(Call, Answer)] = &[(Call::Remove(0), Answer::Done), (Call::Sync, Answer::Done)];
 
 const UNMARKED: &[(Call, Answer)] = &[
@@ -168,7 +168,7 @@ fn says(mark: &[u8], state: &[[u8; 8]], numbers: &[[u8; 8]]) -> bool {
         && rows.ends_with(numbers)
 }
 
-// Whether the folder's mark counts beside its state, and names these files.
+// Whether the directory's mark counts beside its state, and names these files.
 fn names(rt: &HostRuntime, folder: &PathBuf, numbers: &[[u8; 8]]) -> io::Result<bool> {
     let state = state_told(rt, folder)?;
     let mark = folder.join(rt.alloc(), "unsynced")?;

@@ -30,7 +30,7 @@ const BLOB: [u8; 20] = [
     0x76, 0x06, 0x6a, 0x30,
 ];
 
-/// The body of that tree's numbers, where the file has 2.
+/// The body of that tree's numbers, if the file has 2.
 const BODY: &[u8] =
     b"\xd8\x32\x9f\xc1\xcc\x93\x87\x80\xff\xdd\x9f\x94\xe0\xd3\x64\xe0\xea\x74\xf5\x79\
     \x00\x00\x00\x01\x00\x00\x00\x00\x00\x00\x00\x00\x00\x02\

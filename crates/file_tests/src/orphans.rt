@@ -1,4 +1,4 @@
-//! Orphans of an overlay, and what interrupted stores left in a folder: what is found, counted and removed.
+//! Orphans of an overlay, and what interrupted stores left in a directory: what is found, counted and removed.
 use crate::folders::{Made, folder_of, remove};
 use crate::formats::{NEW_DIRECTORY, NEW_FILE, OWN_BODY, OWN_DIGEST, told};
 use crate::told::require;
@@ -134,7 +134,7 @@ fn a_name_that_dangles_is_told(rt: HostRuntime) {
     assert!(rt; leaves(rt.alloc(), files, answers, &[0, 1, 7, 9, 10]));
 }
 
-// What is left where that call of the files fails, counted from 1: the root's head, two reads, the list, three heads,
+// What is left if that call of the files fails, counted from 1: the root's head, two reads, the list, three heads,
 // three removals.
 const FAILING: &[(u64, &[u64])] = &[
     (1, &[0, 1, 2, 7, 9, 10]),
@@ -159,7 +159,7 @@ fn what_was_removed_stays_so(rt: HostRuntime) {
     }
 }
 
-// What is in a folder: two files that were being stored, and what only looks so.
+// What is in a directory: two files that were being stored, and what only looks so.
 const LEFT: &[(&str, Made)] = &[
     ("2.new", Made::File(b"abc")),
     ("10.new", Made::File(b"")),
@@ -173,7 +173,7 @@ const LEFT: &[(&str, Made)] = &[
     ("4.new", Made::Link("5")),
 ];
 
-// How many names a folder has, if it can be listed.
+// How many names a directory has, if it can be listed.
 fn count_names(rt: &HostRuntime, folder: &PathBuf) -> Option<usize> {
     let mut count: usize = 0;
     for _ in fs::read_dir(rt, folder.as_path()).ok()? {
@@ -214,7 +214,7 @@ fn what_was_being_stored_is_removed(rt: HostRuntime) {
     remove(&rt, folder).expect(&rt, "a folder");
 }
 
-// Whether the device is told to have failed, once and counted, where those calls of the system fail.
+// Whether the device is told to have failed, once and counted, if those calls of the system fail.
 fn is_told(rt: &HostRuntime, folder: PathBuf, call: Call) -> bool {
     let system = FaultySystem {
         files: rt,

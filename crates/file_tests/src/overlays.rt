@@ -39,7 +39,7 @@ fn filled_with(rt: &impl Abort, alloc: Global, entries: &[StoredEntry]) -> InMem
     overlay
 }
 
-// The same, where the directory has the file `test.txt` alone.
+// The same, if the directory has the file `test.txt` alone.
 fn filled(rt: &impl Abort, alloc: Global) -> InMemory {
     let entries = one_file(rt, alloc, Origin::Own);
     let overlay = filled_with(rt, alloc, entries.as_slice());
@@ -157,7 +157,7 @@ fn long_contents_are_stored(rt: HostRuntime) {
     drop(overlay);
 }
 
-// Whether these bytes are got of file 2, from there on and at most so many.
+// Whether these bytes are got of file 2, from there on and at most this many.
 fn is_part(overlay: &mut InMemory, alloc: Global, from: u64, most: u64, want: &[u8]) -> bool {
     let answer = overlay.get_part(alloc, 2, from, most);
     let is_got = match &answer {
@@ -175,7 +175,7 @@ fn content_of(alloc: Global, length: usize) -> Result<Vec<u8>, AllocError> {
     Ok(content)
 }
 
-// Whether parts of file 2 are got, which has so many bytes, the last three of them `end`.
+// Whether parts of file 2 are got, which has this many bytes, the last three of them `end`.
 fn gives_parts(overlay: &mut InMemory, alloc: Global, length: u64) -> bool {
     let end = length.saturating_sub(3);
     is_part(overlay, alloc, 0, 2, &[7, 7])
@@ -250,7 +250,7 @@ const BAD_DIGEST: Option<GetFault> = Some(GetFault::Damaged(Refusal::BadDigest))
 
 const BAD_IDENTIFIER: Option<GetFault> = Some(GetFault::Damaged(Refusal::BadIdentifier));
 
-// Damage is told where file 2 has another digest and file 1 is a directory, and nothing once file 2 is removed.
+// Damage is told if file 2 has another digest and file 1 is a directory, and nothing once file 2 is removed.
 fn get_no_parts(rt: &impl Abort, alloc: Global, files: MemoryFiles<Outside>, content: &[u8]) {
     let mut overlay = Overlay::<Outside, _>::new(alloc, files);
     require(

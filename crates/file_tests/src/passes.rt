@@ -28,7 +28,7 @@ const D_NUMBERS: &[u8] =
 const D_WITH_TWO: &[u8] =
     b"DDDDDDDDDDDDDDDDDDDD\0\0\0\x01\0\0\0\0\0\0\0\0\0\x02GGGGGGGGGGGGGGGGGGGG\x01g";
 
-/// Those of another tree object's directory; and a body that stops behind such an object's id.
+/// Those of another tree object's directory; and a body that stops after such an object's id.
 const OTHER_NUMBERS: &[u8] =
     b"EEEEEEEEEEEEEEEEEEEE\0\0\0\x01\0\0\0\0\0\0\0\0\0\x02GGGGGGGGGGGGGGGGGGGG\x01g";
 

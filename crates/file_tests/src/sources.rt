@@ -1,4 +1,4 @@
-//! The answers of sources in memory and in folders.
+//! The answers of sources in memory and in directories.
 use crate::folders::{Made, folder_of, remove};
 use crate::told::require;
 use eden_model::{Cause, Id, Outside};
@@ -88,8 +88,8 @@ fn memory_may_lie(rt: HostRuntime) {
 // The framed bytes of `VERSION_1`.
 const FRAMED: &[u8] = b"blob 10\0version 1\n";
 
-// What is in a folder of objects. By an id's first byte: 83 has an object, 84 has an empty file, 85 a directory in the
-// file's place, 86 a link to nothing, 87 a plain file in the folder's place, 88 a file that is too large, and 89
+// What is in a directory of objects. By an id's first byte: 83 has an object, 84 has an empty file, 85 a directory in
+// the file's place, 86 a link to nothing, 87 a plain file in the directory's place, 88 a file that is too large, and 89
 // another object alone.
 const OBJECTS: &[(&str, Made)] = &[
     ("83", Made::Folder),
@@ -128,7 +128,7 @@ const ANSWERS: &[(u8, Result<&[u8], Cause>, u64)] = &[
     (0x8a, Err(Cause::Missing), 3),
 ];
 
-// Whether a source has all those answers, and counts so many failures after each.
+// Whether a source has all those answers, and counts this many failures after each.
 fn gives_all<S: Source<Outside>>(source: &mut S, alloc: Global) -> bool {
     for (first, want, failures) in ANSWERS {
         let is_answered = gives(source, alloc, id_starting(*first), *want);
@@ -180,7 +180,7 @@ fn given<S: Source<Outside>>(source: &mut S, alloc: Global, first: u8) -> Option
     length
 }
 
-// The same of the folder's source.
+// The same of the directory's source.
 fn length_in(rt: &impl Abort, system: &HostRuntime, folder: &PathBuf, first: u8) -> Option<usize> {
     let mut source = FolderSource::new(system, folder.clone().expect(rt, "memory"));
     let length = given(&mut source, system.alloc(), first);
@@ -188,7 +188,7 @@ fn length_in(rt: &impl Abort, system: &HostRuntime, folder: &PathBuf, first: u8)
     length
 }
 
-// The folder's source, where that call of the system fails so.
+// The directory's source, if that call of the system fails so.
 fn failing(
     rt: &impl Abort,
     system: &HostRuntime,
@@ -234,7 +234,7 @@ const KINDS: &[(ErrorKind, Cause, u64)] = &[
     (ErrorKind::OutOfMemory, Cause::Memory, 0),
 ];
 
-// Whether each of two questions has that answer, and so many failures are counted then.
+// Whether each of two questions has that answer, and this many failures are counted then.
 fn fails<S: Source<Outside> + Drop>(source: S, alloc: Global, want: Cause, failures: u64) -> bool {
     let mut source = source;
     gives(&mut source, alloc, VERSION_1.id, Err(want))

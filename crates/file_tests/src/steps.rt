@@ -1,4 +1,5 @@
-//! Steps over files in a folder, each of which has to be so: tests are tables of them, and one body goes through them.
+//! Steps over files in a directory, each of which has to be so: tests are tables of them, and one body goes through
+//! them.
 use crate::folders::has;
 use crate::kinds::{Answer, Call, gives, reads};
 use eden_model::Outside;
@@ -7,28 +8,28 @@ use std::alloc::{AllocError, Global};
 use std::path::PathBuf;
 use std::process::Abort;
 
-/// What is asked of files in a folder, and what has to be so.
+/// What is asked of files in a directory, and what has to be so.
 #[derive(Clone, Copy)]
 pub enum Step<'a> {
     Gives(Call<'a>, Answer<'a>),
-    /// So many calls have failed.
+    /// This many calls have failed.
     HasFailed(u64),
-    /// Whether the folder has that name.
+    /// Whether the directory has that name.
     Has(&'a str, bool),
-    /// The file of that number becomes so many bytes 7.
+    /// The file of that number becomes this many bytes 7.
     Fills(u64, usize),
-    /// It becomes those bytes, and behind them so many bytes 7.
+    /// It becomes those bytes, and after them this many bytes 7.
     FillsBehind(u64, &'a [u8], usize),
-    /// It has so many bytes 7.
+    /// It has this many bytes 7.
     IsFilled(u64, usize),
 }
 
-/// So many bytes 7, of which no proof has to know.
+/// This many bytes 7, of which no proof has to know.
 pub fn of_length(alloc: Global, count: usize) -> Result<Vec<u8>, AllocError> {
     [7; 1].repeat(alloc, count)
 }
 
-/// Whether the file becomes so many bytes 7.
+/// Whether the file becomes this many bytes 7.
 pub fn fills<F: Files<Outside>>(files: &mut F, alloc: Global, number: u64, count: usize) -> bool {
     match of_length(alloc, count) {
         Ok(bytes) => files.replace(alloc, number, &bytes) == Ok(()),
@@ -49,7 +50,7 @@ fn fills_behind<F: Files<Outside>>(
     }
 }
 
-/// Whether the file has so many bytes 7.
+/// Whether the file has this many bytes 7.
 pub fn is_filled<F: Files<Outside>>(
     files: &mut F,
     alloc: Global,

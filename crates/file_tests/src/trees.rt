@@ -103,7 +103,7 @@ fn take_of_both(rt: &impl Abort, dir: &mut Dir<Global>, map: &mut BTreeMap<Name,
     assert!(rt; take_number(dir, key) == map.remove(key));
 }
 
-/// Puts into both, where the name isn't there yet, and compares what they answer.
+/// Puts into both, if the name isn't there yet, and compares what they answer.
 fn put_into_both<A: Allocator>(
     rt: &impl Abort,
     alloc: Global,
@@ -227,7 +227,7 @@ fn take_first<A: Allocator>(rt: &impl Abort, dir: &mut Dir<A>, key: &Name) -> u6
     number
 }
 
-/// Takes the first entries out of a directory of so many: that needs no room.
+/// Takes the first entries out of a directory of this many: that needs no room.
 fn take_some<A: Allocator>(rt: &impl Abort, alloc: Global, dir: &mut Dir<A>, count: u32) {
     let some = u32::min(count, 100);
     for number in 0..some {
@@ -263,7 +263,7 @@ fn fill_from(rt: &impl Abort, alloc: Global, heap: &LocalHeap) -> u32 {
     count
 }
 
-/// How many entries find room in so many bytes, which are all given back.
+/// How many entries find room in this many bytes, which are all given back.
 fn room_in(rt: &impl Abort, alloc: Global, bytes: usize) -> u32 {
     let heap = LocalHeap::new(alloc, bytes).expect(rt, "memory");
     let count = fill_from(rt, alloc, &heap);
@@ -288,7 +288,7 @@ fn each_refused_growth_hands_name_and_entry_back(rt: HostRuntime) {
     assert!(rt; most > 1000);
 }
 
-/// Attaches where the entry is a directory's and holds none.
+/// Attaches if the entry is a directory's and holds none.
 fn attach_where_free<A: Allocator>(
     rt: &impl Abort,
     dir: &mut Dir<A>,

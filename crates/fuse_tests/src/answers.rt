@@ -229,7 +229,7 @@ fn is_behind(bytes: &[u8], front: &[u8], back: &[u8]) -> bool {
     }
 }
 
-// Whether the answer is written as these bytes, behind others.
+// Whether the answer is written as these bytes, after others.
 fn is_written(rt: &impl Abort, out: &mut Vec<u8>, answer: &Answer<'_>, want: &[u8]) -> bool {
     assert!(rt; is_brief(answer));
     out.clear();
@@ -266,7 +266,7 @@ fn is_row(rt: &impl Abort, out: &mut Vec<u8>, row: &Dirent<'_>, want: &[u8]) -> 
     put(rt, out, want.len(), row) && out.as_slice() == want && row_len(row) == want.len()
 }
 
-// Whether the row is written as these bytes behind its entry.
+// Whether the row is written as these bytes after its entry.
 fn is_row_with_entry(
     rt: &impl Abort,
     out: &mut Vec<u8>,
@@ -281,7 +281,7 @@ fn is_row_with_entry(
         && entry_len(&ENTRY) == 128
 }
 
-// Whether the row is written as these digits, alone and behind its entry.
+// Whether the row is written as these digits, alone and after its entry.
 fn is_right(
     rt: &(impl AllocGlobal + Abort),
     out: &mut Vec<u8>,
@@ -313,7 +313,7 @@ fn fit_twice(rt: &impl Abort, out: &mut Vec<u8>, row: &Dirent<'_>, want: &[u8]) 
         && out.len() == 64
 }
 
-// Whether one with its entry fits behind them into 224 bytes, and not into less.
+// Whether one with its entry fits after them into 224 bytes, and not into less.
 fn fits_behind(rt: &impl Abort, out: &mut Vec<u8>, row: &Dirent<'_>) -> bool {
     !put_plus(rt, out, 223, row)
         && out.len() == 64

@@ -23,7 +23,7 @@ pub(crate) enum Call {
     WritesNot(usize, u64, &'static [u8]),
     /// These bytes are read.
     Reads(usize, &'static [u8]),
-    /// .. where so many are asked for from an offset on.
+    /// .. if this many are asked for from an offset on.
     ReadsFrom(usize, u64, u32, &'static [u8]),
     /// .. aren't.
     ReadsNot(usize, &'static [u8]),
@@ -35,11 +35,11 @@ pub(crate) enum Call {
     Shows(usize, u64),
     /// .. of that name.
     ShowsNamed(&'static [u8], u64),
-    /// .. of that name, which is made, or opened where it is there.
+    /// .. of that name, which is made, or opened if it is there.
     ShowsMade(&'static [u8], u64),
     /// How many bytes the rows of the root have.
     Lists(usize),
-    /// The rows of the root from an offset on, of so many bytes at most.
+    /// The rows of the root from an offset on, of this many bytes at most.
     Rows(u64, u32, &'static [&'static [u8]]),
     /// It starts.
     Starts,
@@ -132,9 +132,9 @@ impl Caller {
     }
 }
 
-/// What is left at the end: so many files; bytes were put into one so often, and none were lost, or that error was told
-/// of what was; they were to be put so often, be it in vain; the disk was to be waited for so often; or that, how often
-/// bytes were put, and how often by the last time; the root was listed so often.
+/// What is left at the end: this many files; bytes were put into one so often, and none were lost, or that error was
+/// told of what was; they were to be put so often, be it in vain; the disk was to be waited for so often; or that, how
+/// often bytes were put, and how often by the last time; the root was listed so often.
 #[derive(Clone, Copy)]
 pub(crate) enum End {
     Files(usize),

@@ -37,7 +37,7 @@ pub(crate) struct Flat {
     lists: usize,
 }
 
-// So many files are listed at once.
+// This many files are listed at once.
 const MOST_LISTED: usize = 3;
 
 // How many files there are at last, how often what was done, and the error that the last stores met.
@@ -52,7 +52,7 @@ pub(crate) struct Left {
     pub(crate) lists: usize,
 }
 
-// Puts bytes from an offset on in the place of what is there, behind zeros where there is a gap.
+// Puts bytes from an offset on in the place of what is there, after zeros if there is a gap.
 fn put_from(content: &mut Vec<u8>, from: usize, bytes: &[u8]) -> Result<(), AllocError> {
     let end = from.saturating_add(bytes.len());
     if content.len() < end {
@@ -71,7 +71,7 @@ fn push_row(alloc: Global, rows: &mut Vec<(Name, Kind)>, name: &Name) -> Result<
     Ok(())
 }
 
-// Whether a name comes behind that one, if there is one.
+// Whether a name comes after that one, if there is one.
 fn is_after(name: &Name, after: Option<&Name>) -> bool {
     match after {
         None => true,
@@ -128,7 +128,7 @@ impl Flat {
         Ok(Reply::Data(Bytes::new(Vec::from_slice(self.alloc, part)?)))
     }
 
-    // The first name behind that one.
+    // The first name after that one.
     fn next(&self, after: Option<&Name>) -> Option<&Name> {
         let mut first = None;
         for file in self.files.as_slice() {
@@ -376,7 +376,7 @@ pub(crate) fn make_folder(rt: &(impl AllocGlobal + Abort), start: Start) -> Fold
     }
 }
 
-// Whether bytes are those parts, one behind another.
+// Whether bytes are those parts, one after another.
 fn is_joined(bytes: &[u8], parts: &[&[u8]]) -> bool {
     let mut rest = bytes;
     for part in parts {
@@ -438,7 +438,7 @@ impl Folder {
         }
     }
 
-    // Whether so many bytes of a node from an offset on are read as these.
+    // Whether this many bytes of a node from an offset on are read as these.
     pub(crate) fn reads(&mut self, node: u64, offset: u64, size: u32, bytes: &[u8]) -> bool {
         let reading = ReadIn {
             fh: 0,
@@ -469,7 +469,7 @@ impl Folder {
         )
     }
 
-    // The size that is told of a node; 1,000 where none is.
+    // The size that is told of a node; 1,000 if none is.
     pub(crate) fn size(&mut self, node: u64) -> u64 {
         let looking = GetAttrIn {
             getattr_flags: 0,
@@ -502,7 +502,7 @@ impl Folder {
         self.root
     }
 
-    // Whether rows of the root are left in the room, of so many bytes at most.
+    // Whether rows of the root are left in the room, of this many bytes at most.
     fn list(&mut self, offset: u64, size: u32) -> bool {
         let reading = ReadIn {
             fh: self.open_root(),
@@ -524,7 +524,7 @@ impl Folder {
         }
     }
 
-    // Whether these are the rows of the root from an offset on, of so many bytes at most.
+    // Whether these are the rows of the root from an offset on, of this many bytes at most.
     pub(crate) fn lists(&mut self, offset: u64, size: u32, rows: &[&[u8]]) -> bool {
         self.list(offset, size) && is_joined(self.room.as_slice(), rows)
     }

@@ -89,7 +89,7 @@ const NOT_REPLACED: &[Call] = &[
     Call::Tells(1, CLOSE, 0),
 ];
 
-// The other stays open; and where the rename is refused, it has its name.
+// The other stays open; and if the rename is refused, it has its name.
 #[test]
 fn what_is_replaced_while_it_is_open_stays(rt: HostRuntime) {
     check(&rt, A_AND_B, REPLACED, End::Files(1));

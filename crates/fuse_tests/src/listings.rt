@@ -98,7 +98,7 @@ const D: &[u8] = b"\xff\xff\xff\xff\0\0\0\0\x06\0\0\0\0\0\0\0\x01\0\0\0\x08\0\0\
 
 const E: &[u8] = b"\xff\xff\xff\xff\0\0\0\0\x07\0\0\0\0\0\0\0\x01\0\0\0\x08\0\0\0e\0\0\0\0\0\0\0";
 
-// Names that come behind all others, as the first three, and as the fifth and sixth.
+// Names that come after all others, as the first three, and as the fifth and sixth.
 const X: &[u8] = b"\xff\xff\xff\xff\0\0\0\0\x03\0\0\0\0\0\0\0\x01\0\0\0\x08\0\0\0x\0\0\0\0\0\0\0";
 
 const Y: &[u8] = b"\xff\xff\xff\xff\0\0\0\0\x04\0\0\0\0\0\0\0\x01\0\0\0\x08\0\0\0y\0\0\0\0\0\0\0";
@@ -190,7 +190,7 @@ const FOUND_BEHIND_TWO: &[Call] = &[
     Call::Rows(9, 1000, &[]),
 ];
 
-// .. those of a page that isn't listed yet are told with it, and those that come behind one that had no more aren't.
+// .. those of a page that isn't listed yet are told with it, and those that come after one that had no more aren't.
 #[test]
 fn names_behind_a_page_are_told_with_the_next(rt: HostRuntime) {
     check(&rt, A_TO_E, MOVE_BEHIND_A_PAGE, End::Lists(2));
@@ -215,7 +215,7 @@ const C_BEHIND_A: &[u8] =
 
 const F: &[u8] = b"\xff\xff\xff\xff\0\0\0\0\x05\0\0\0\0\0\0\0\x01\0\0\0\x08\0\0\0f\0\0\0\0\0\0\0";
 
-// What went since it was listed is told still; where no more came that is the end, also when a name comes then.
+// What went since it was listed is told still; if no more came that is the end, also when a name comes then.
 #[test]
 fn what_went_is_told_until_it_is_listed_anew(rt: HostRuntime) {
     check(&rt, A_TO_E, GONE, End::Lists(3));

@@ -46,7 +46,7 @@ fn put_number(rt: &(impl AllocGlobal + Abort), text: &mut Vec<u8>, number: u64) 
     put(rt, text, word.as_bytes());
 }
 
-// Each name of a path behind a slash.
+// Each name of a path after a slash.
 fn put_path(rt: &impl Abort, text: &mut Vec<u8>, path: &Path) {
     for name in path.as_slice() {
         put(rt, text, b"/");
@@ -266,7 +266,7 @@ impl Course {
         next(rt.alloc(), then, reply).expect(rt, "memory")
     }
 
-    // The step behind one that asks; one that tells is the last.
+    // The step after one that asks; one that tells is the last.
     fn go(&mut self, rt: &(impl AllocGlobal + Abort), step: Step) -> Step {
         match step {
             Step::Tell(outcome) => {

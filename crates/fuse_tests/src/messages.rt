@@ -8,7 +8,7 @@ use eden_fuse_format::{
 };
 use std::process::Abort;
 
-// The members of a struct, and zeros behind them.
+// The members of a struct, and zeros after them.
 type Members = [u64; 13];
 
 fn padded(front: &[u64]) -> Members {
@@ -224,7 +224,7 @@ enum Lack {
     Unframed,
 }
 
-// Whether a message lacks that, and is number 5 where it has a number.
+// Whether a message lacks that, and is number 5 if it has a number.
 fn lacks(rt: &(impl AllocGlobal + Abort), sent: &[&str], lack: Lack) -> bool {
     match (read_message(&decoded(rt, sent)), lack) {
         (Message::Unknown(unique), Lack::Unknown) => unique == 5,

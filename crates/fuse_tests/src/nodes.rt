@@ -11,7 +11,7 @@ fn place(rt: &(impl AllocGlobal + Abort), parent: u64, name: &str) -> Place {
     }
 }
 
-// Whether the path has that text, each name behind a slash.
+// Whether the path has that text, each name after a slash.
 fn is_text(path: &Path, text: &[u8]) -> bool {
     let mut rest = text;
     for name in path.as_slice() {
@@ -23,12 +23,12 @@ fn is_text(path: &Path, text: &[u8]) -> bool {
     rest.is_empty()
 }
 
-// What stands behind a slash and that name.
+// What stands after a slash and that name.
 fn behind_name<'a>(text: &'a [u8], name: &[u8]) -> Option<&'a [u8]> {
     text.strip_prefix(b"/")?.strip_prefix(name)
 }
 
-// Whether a node lies there, each name behind a slash; `-` for nowhere, and `+` for too far.
+// Whether a node lies there, each name after a slash; `-` for nowhere, and `+` for too far.
 fn lies_at(rt: &(impl AllocGlobal + Abort), nodes: &Nodes, id: u64, path: &[u8]) -> bool {
     match nodes.find(rt.alloc(), id).expect(rt, "memory") {
         Whereabouts::Nowhere => path == b"-".as_slice(),

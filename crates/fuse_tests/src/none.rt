@@ -21,7 +21,7 @@ pub(crate) const UNKNOWN: &[&[&str]] = &[
     &["28000000ffffffff0500000000000000010000000000000008000000090000000a00000000000000"],
 ];
 
-// Names and structs that are cut, names with bytes behind them, fewer or more bytes than are told.
+// Names and structs that are cut, names with bytes after them, fewer or more bytes than are told.
 pub(crate) const MALFORMED: &[&[&str]] = &[
     &["28000000010000000500000000000000010000000000000008000000090000000a00000000000000"],
     &[

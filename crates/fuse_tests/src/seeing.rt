@@ -91,8 +91,8 @@ const BEHIND_A_GAP: &[Call] = &[
     Call::ReadsFrom(1, 10, 1, b""),
 ];
 
-// Whoever looks sees it, by its node and by its name: where it begins in the file, ends behind it, or lies behind its
-// end. It is stored once, at the end.
+// Whoever looks sees it, by its node and by its name: if it begins in the file, ends after it, or lies after its end.
+// It is stored once, at the end.
 #[test]
 fn what_waits_is_seen(rt: HostRuntime) {
     check(&rt, A, SEEN, End::Patches(1));
@@ -195,7 +195,7 @@ const NOT_STORED: &[Call] = &[
     Call::Tells(1, FLUSH, 0),
 ];
 
-// Where it can't be stored, whoever looks sees it, and whoever flushes it is told so; once it is dropped, by the last
+// If it can't be stored, whoever looks sees it, and whoever flushes it is told so; once it is dropped, by the last
 // close, nobody sees it.
 #[test]
 fn what_is_not_stored_is_seen_until_it_is_dropped(rt: HostRuntime) {

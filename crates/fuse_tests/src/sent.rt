@@ -1,7 +1,7 @@
 //! Messages that are requests: as Linux 6.18 sent them to a mount that answered a fixed tree, and as its header spells
 //! them.
 
-// A message in hexadecimal digits, its header first; the members of its header, behind length and operation; and those
+// A message in hexadecimal digits, its header first; the members of its header, after length and operation; and those
 // of its struct, its name or bytes, and its other name.
 pub(crate) struct Row {
     pub(crate) sent: &'static [&'static str],

@@ -110,7 +110,7 @@ impl Session {
         )
     }
 
-    // Whether so many calls of the line, and of the service, were made, and these bytes came.
+    // Whether this many calls of the line, and of the service, were made, and these bytes came.
     fn is_at(&self, calls: u32, asked: u32, got: &[u8]) -> bool {
         self.line.calls == calls && self.service.asked == asked && self.line.got.as_slice() == got
     }
@@ -229,7 +229,7 @@ impl Session {
         self.turn(&decoded(rt, sent)) == turned && self.is_at(calls, asked, got)
     }
 
-    // Whether a row's message is answered, as one of so many.
+    // Whether a row's message is answered, as one of this many.
     fn answers(&mut self, rt: &(impl AllocGlobal + Abort), row: &Row, turns: u32) -> bool {
         let end = End(Turned::Answered, turns, turns);
         self.ends(rt, row.sent, end, &answer_of(rt, row))
@@ -259,7 +259,7 @@ fn what_wants_no_answer_has_none(rt: HostRuntime) {
     }
 }
 
-// Whether the first message's turn ends so, and these bytes came, where the line fails at that call.
+// Whether the first message's turn ends so, and these bytes came, if the line fails at that call.
 fn ends_first(
     rt: &(impl AllocGlobal + Abort),
     bad: u32,
@@ -353,7 +353,7 @@ fn wants_memory(rt: &(impl AllocGlobal + Abort), row: &Row, lack: usize) -> bool
     make_narrow(rt, room, want.len()).wants_memory(rt, &message, &want, room)
 }
 
-// Memory is refused only where these tests are run so.
+// Memory is refused only if these tests are run so.
 #[test]
 fn rooms_grow(rt: HostRuntime) {
     for row in ANSWERED {

@@ -147,7 +147,7 @@ const BETWEEN: &[Call] = &[
     Call::Reads(1, b"JElLo\0\0\0!"),
 ];
 
-// What begins before it or behind its end waits with what the file has between, and with zeros behind the file's end.
+// What begins before it or after its end waits with what the file has between, and with zeros after the file's end.
 #[test]
 fn what_lies_between_is_stored_with_it(rt: HostRuntime) {
     check(&rt, A, APART, End::Stores(1));
@@ -186,7 +186,7 @@ const NOT_STORED: &[Call] = &[
     Call::Reads(1, b"hello"),
 ];
 
-// Where it can't be stored, it waits until the last close, and whoever flushes it is told so.
+// If it can't be stored, it waits until the last close, and whoever flushes it is told so.
 #[test]
 fn what_is_not_stored_waits_until_it_is_closed(rt: HostRuntime) {
     check(&rt, A_AS_IT_IS, NOT_STORED, End::Stores(0));
@@ -236,7 +236,7 @@ const NOT_SYNCED: &[Call] = &[
     Call::Reads(1, b"HELlo"),
 ];
 
-// Where the disk can't be waited for, that is told, and what waited is stored.
+// If the disk can't be waited for, that is told, and what waited is stored.
 #[test]
 fn what_is_not_synced_is_told(rt: HostRuntime) {
     check(&rt, A_WITHOUT_DISK, NOT_SYNCED, End::Synced(2, 1, 1));

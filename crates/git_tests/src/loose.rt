@@ -127,7 +127,7 @@ fn try_to_put(
     fs::write(rt, path.as_path(), file)
 }
 
-/// Puts a file below a folder, and makes the directories above it.
+/// Puts a file below a directory, and makes the directories above it.
 pub(crate) fn put(
     rt: &(impl AllocGlobal + Abort + Files),
     folder: &PathBuf,
@@ -150,7 +150,7 @@ pub(crate) fn remove_folder(rt: &(impl AllocGlobal + Abort + Files), folder: &Pa
     fs::remove_dir_all(rt, folder.as_path()).expect(rt, "a folder");
 }
 
-/// Whether the source doesn't give that object for that cause, and tells so many failures then.
+/// Whether the source doesn't give that object for that cause, and tells this many failures then.
 pub(crate) fn lacks<S: Source<Outside>>(
     source: &mut S,
     alloc: Global,

@@ -73,13 +73,13 @@ const BEGIN: &str =
 #[derive(Clone, Copy)]
 pub(crate) struct Packed {
     pub(crate) name: &'static str,
-    /// How the pack goes on after what each begins with.
+    /// How the pack continues after what each begins with.
     end: &'static str,
-    /// How its index goes on after the ids: with their checksums, their places, and the files' checksums.
+    /// How its index continues after the ids: with their checksums, their places, and the files' checksums.
     places: &'static str,
     /// How the multi-pack index begins, before the counts.
     multi_front: &'static str,
-    /// How it goes on after the ids.
+    /// How it continues after the ids.
     multi_places: &'static str,
 }
 
@@ -110,7 +110,7 @@ fn add(rt: &(impl AllocGlobal + Abort), bytes: &mut Vec<u8>, digits: &str) {
     bytes.extend_from_slice(&added).expect(rt, "memory");
 }
 
-// The index that begins so before the counts and ends so behind the ids.
+// The index that begins so before the counts and ends so after the ids.
 fn index_of(rt: &(impl AllocGlobal + Abort), front: &str, end: &str) -> Vec<u8> {
     let mut bytes = bytes_of(rt, front);
     add(rt, &mut bytes, COUNTS);

@@ -21,7 +21,7 @@ fn put_files(rt: &(impl AllocGlobal + Abort + Files), folder: &PathBuf, pack: &[
     put(rt, folder, INDEX, index);
 }
 
-/// Puts the pack and its index into the repository in the folder.
+/// Puts the pack and its index into the repository in the directory.
 pub(crate) fn put_pack(rt: &(impl AllocGlobal + Abort + Files), folder: &PathBuf, packed: &Packed) {
     put_files(rt, folder, &packed.pack(rt), &packed.index(rt));
 }
@@ -81,7 +81,7 @@ fn gives_all<S: Source<Outside>>(source: &mut S, alloc: Global) -> bool {
         && lacks(source, alloc, Id { bytes: [7; 20] }, Cause::Missing, 0)
 }
 
-/// .. as the repository in the folder.
+/// .. as the repository in the directory.
 fn is_whole(rt: &(impl AllocGlobal + Abort + Files), folder: &PathBuf) -> bool {
     gives_all(&mut open(rt, folder), rt.alloc())
 }
@@ -108,7 +108,7 @@ fn packs_are_read(rt: HostRuntime) {
     }
 }
 
-// The repository in the folder fails to read an object of its pack.
+// The repository in the directory fails to read an object of its pack.
 fn check_failure(rt: &(impl AllocGlobal + Abort + Files), folder: &PathBuf) {
     check_lack(rt, &mut open(rt, folder), named(FIRST), Cause::Device, 1);
 }
@@ -131,7 +131,7 @@ pub(crate) fn put_blob(rt: &(impl AllocGlobal + Abort + Files), folder: &PathBuf
     put_object(rt, &objects, &BLOB);
 }
 
-// The source of a folder sees what comes into it, and reads what is open after its removal.
+// The source of a directory sees what comes into it, and reads what is open after its removal.
 fn check_later<S: Source<Outside>>(
     rt: &(impl AllocGlobal + Abort + Files),
     folder: &PathBuf,
@@ -228,7 +228,7 @@ struct Trio {
     multi: Vec<u8>,
 }
 
-// Changes a byte of each, and puts them into the folder.
+// Changes a byte of each, and puts them into the directory.
 fn put_changed(
     rt: &(impl AllocGlobal + Abort + Files),
     folder: &PathBuf,
@@ -284,7 +284,7 @@ fn changed_packs_are_answered(rt: HostRuntime) {
     remove_folder(&rt, &folder);
 }
 
-/// A delta of the one behind it, as is that one, and the last of an object that stands whole.
+/// A delta of the one after it, as is that one, and the last of an object that stands whole.
 const TIP: &str = "f2280dbd787c9c0382c90dfeb086b1dc41a34cce";
 
 const CHAIN: &[&str] = &[

@@ -19,7 +19,7 @@ pub(crate) const BLOB: Written = Written {
     framed: "626c6f622031300076657273696f6e20310a",
 };
 
-/// Two blobs, a tree, a commit and a tag. The framed bytes are those of `git cat-file`, behind their header.
+/// Two blobs, a tree, a commit and a tag. The framed bytes are those of `git cat-file`, after their header.
 pub(crate) const WRITTEN: &[Written] = &[
     BLOB,
     Written {

@@ -27,13 +27,13 @@ impl Reader {
         }
     }
 
-    /// What comes of a stream that is to give so many bytes.
+    /// What comes of a stream that is to give this many bytes.
     pub(crate) fn outcome(&mut self, stream: &[u8], count: usize) -> Result<usize, Refusal> {
         self.decoder
             .inflate(self.alloc, stream, count, &mut self.output)
     }
 
-    /// Whether a stream that is to give so many bytes comes to that, with these bytes given.
+    /// Whether a stream that is to give this many bytes comes to that, with these bytes given.
     pub(crate) fn gives(
         &mut self,
         stream: &[u8],
@@ -49,7 +49,7 @@ impl Reader {
         TEXT.starts_with(self.output.as_slice())
     }
 
-    // Whether so many bytes of the text are given, or all where it has no more.
+    // Whether this many bytes of the text are given, or all if it has no more.
     fn gives_front(&mut self, stream: &[u8], count: usize) -> bool {
         let outcome = self
             .decoder
@@ -99,7 +99,7 @@ fn other_sizes_are_refused(rt: HostRuntime) {
     }
 }
 
-// Whether each front of the text is read, and all of it where more is asked.
+// Whether each front of the text is read, and all of it if more is asked.
 fn gives_fronts(rt: &(impl AllocGlobal + Abort), reader: &mut Reader, digits: &str) -> bool {
     let stream = bytes_of(rt, digits);
     (0..TEXT.len() + 2).all(|count| reader.gives_front(&stream, count))

@@ -38,7 +38,7 @@ fn is_refused_cut(rt: &(impl AllocGlobal + Abort), reader: &mut Reader, digits: 
     })
 }
 
-// Where a stream ends before its output is whole, zlib says so at each place.
+// If a stream ends before its output is whole, zlib says so at each place.
 #[test]
 fn cut_streams_are_refused(rt: HostRuntime) {
     let mut reader = Reader::new(rt.alloc());

@@ -1,5 +1,5 @@
-//! Calls that change a table, where the table as it stands allows them, and whether that was done. Where it doesn't
-//! allow them nothing is tried.
+//! Calls that change a table, if the table as it stands allows them, and whether that was done. If it doesn't allow
+//! them nothing is tried.
 
 ghost use Rattle.std.specs.Prelude.{◌≡◌, ◌≢◌, IsTrue};
 ghost use Rattle.eden_tree.specs.Directory.{Row, child_of};

@@ -13,7 +13,7 @@ use test_samples::{NEW_FILE, ONE_FILE, Sample, TWO_FILES, VERSION_1, VERSION_2, 
 /// After how many steps all is compared.
 const BETWEEN: u32 = 100;
 
-/// The deepest paths of steps have so many names.
+/// The deepest paths of steps have this many names.
 const DEEPEST: u32 = 3;
 
 /// A commit or an own root, what is below it, how often it is begun with, and how many steps follow each time.
@@ -103,7 +103,7 @@ fn rename<A: Allocator + Clone>(
     moved
 }
 
-/// Loads or unloads the directory at a path, or lets the clock go on: nothing comes or goes.
+/// Loads or unloads the directory at a path, or lets the clock advance: nothing comes or goes.
 fn turn<A: Allocator + Clone>(rt: &impl Abort, mount: &mut Mount<A>, path: &[u8], word: u32) {
     match word % 4 {
         0 => {
@@ -168,7 +168,7 @@ fn reopen<A: Allocator + Clone>(rt: &impl Abort, pair: &mut Pair<A>, dirs: &A) {
     check_and_note(rt, pair);
 }
 
-/// Changes something at a path, over files that stop at a random call, and lets them go on. Whether they stopped.
+/// Changes something at a path, over files that stop at a random call, and lets them continue. Whether they stopped.
 fn stopping_change<A: Allocator + Clone>(
     rt: &impl Abort,
     pair: &mut Pair<A>,
@@ -217,7 +217,7 @@ fn change_somewhere<A: Allocator + Clone>(
 }
 
 /// A random step, at every fourth of which the device stops after a few calls, and is mended. What it touched shows
-/// what it must; where the device stopped, all does, and every other time the files alone do.
+/// what it must; if the device stopped, all does, and every other time the files alone do.
 fn step<A: Allocator + Clone>(
     rt: &impl Abort,
     pair: &mut Pair<A>,

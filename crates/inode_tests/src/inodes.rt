@@ -125,7 +125,7 @@ fn is_so(
     table.look(&[]).loaded == is_loaded && (!is_loaded || has_one(rt, alloc, table))
 }
 
-// Whether a load of the root from its file answers that where the call of that number on the files fails.
+// Whether a load of the root from its file answers that if the call of that number on the files fails.
 fn load_answers(rt: &impl Abort, alloc: Global, call: u64, want: Result<(), Fault>) -> bool {
     let mut table = Inodes::new(alloc, own_files(rt, alloc, call), Origin::Own, 3);
     let answer = table.load(alloc, &[], None);

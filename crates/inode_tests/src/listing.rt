@@ -1,4 +1,4 @@
-//! Entries of the mount's own put into a table's listings and taken out, where the table as it stands allows it.
+//! Entries of the mount's own put into a table's listings and taken out, if the table as it stands allows it.
 
 ghost use Rattle.std.specs.Prelude.{◌≡◌, ◌≤◌, IsTrue, IfSome, length};
 ghost use Rattle.eden_model.specs.declared.kind.Origin.TheVariants as origins;
@@ -115,7 +115,7 @@ impl<A: Allocator> Question<A> for Opens<'_> {
     }
 }
 
-/// An entry that isn't loaded, where its number is one that was given: at least the least, and below the next.
+/// An entry that isn't loaded, if its number is one that was given: at least the least, and below the next.
 fn entry_of<A: Allocator>(own: Own, next: u64) -> Option<Entry<A>>
     ensures { IfSome result (IsNewOwn next) }
 {
@@ -130,7 +130,7 @@ fn entry_of<A: Allocator>(own: Own, next: u64) -> Option<Entry<A>>
     })
 }
 
-/// Has this under a name of the directory at a path, an entry or nothing: whether that was done. Where the table isn't
+/// Has this under a name of the directory at a path, an entry or nothing: whether that was done. If the table isn't
 /// open to that, nothing is tried.
 fn change_open<A: Allocator + Clone, F: Files<Outside>>(
     alloc: Global,
@@ -149,7 +149,7 @@ fn change_open<A: Allocator + Clone, F: Files<Outside>>(
 }
 
 /// Puts an own entry under a name of the directory at a path, in place of one that is there: whether that was done. It
-/// isn't where the table isn't open to that, or the number was never given.
+/// isn't if the table isn't open to that, or the number was never given.
 pub(crate) fn put<A: Allocator + Clone, F: Files<Outside>>(
     alloc: Global,
     table: &mut Inodes<A, Outside, F>,

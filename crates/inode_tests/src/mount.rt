@@ -71,7 +71,7 @@ struct Lists<'a> {
     want: &'a [Wanted],
 }
 
-/// Whether an entry is that node, with its number where that is noted. A directory of an object may have become the
+/// Whether an entry is that node, with its number if that is noted. A directory of an object may have become the
 /// mount's own.
 fn is_node<A: Allocator>(entry: &Entry<A>, node: Node) -> bool {
     if entry.kind != node.kind || (node.number != 0 && entry.number != node.number) {
@@ -158,7 +158,7 @@ fn table_over<A: Allocator + Clone>(
     Inodes::new(dirs.clone().expect(rt, "a heap"), overlay, root, next)
 }
 
-/// The files under a new mount: none where its root is of an object, and else those of an own root without entries.
+/// The files under a new mount: none if its root is of an object, and else those of an own root without entries.
 fn files_under(rt: &impl Abort, alloc: Global, root: Origin) -> MemoryFiles<Outside> {
     match root {
         Origin::Object(_) => MemoryFiles::new(alloc),

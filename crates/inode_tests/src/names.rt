@@ -1,4 +1,4 @@
-//! Names, and paths of letters that stand for names; a test ends where there is no memory for them.
+//! Names, and paths of letters that stand for names; a test ends if there is no memory for them.
 
 ghost use Rattle.std.specs.Prelude.{◌≡◌};
 

@@ -119,7 +119,7 @@ impl<A: Allocator + Clone> Pair<A> {
         drop(to);
     }
 
-    /// Moves what is under a name to another place, where both directories are the mount's own and loaded: whether that
+    /// Moves what is under a name to another place, if both directories are the mount's own and loaded: whether that
     /// was done.
     pub(crate) fn rename(&mut self, rt: &impl Abort, from: Place<'_>, to: Place<'_>) -> bool {
         let moved = self.mount.rename(rt, from, to);

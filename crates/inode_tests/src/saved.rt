@@ -27,8 +27,8 @@ fn numbers_that_are_saved_are_not_written_again(rt: HostRuntime) {
     check(&rt, rt.alloc(), Some(TWO_FILES), 2, WRITTEN_ONCE);
 }
 
-/// All is unloaded over a device that stops after so many calls, and so many directories go. What went and what stayed
-/// shows its numbers once the device works again.
+/// All is unloaded over a device that stops after this many calls, and this many directories go. What went and what
+/// stayed shows its numbers once the device works again.
 const STOPS: &[&[Step]] = &[
     &[
         NUMBERED,

@@ -28,7 +28,7 @@ const TO: Place<'static> = Place {
     letter: b'c',
 };
 
-/// What a move does over files that stop after so many calls.
+/// What a move does over files that stop after this many calls.
 #[derive(Clone, Copy)]
 struct Row {
     calls: u64,
@@ -82,7 +82,7 @@ const ALL_FILES: &[u64] = &[1, 2, 3, 4, 5];
 enum Then {
     /// All is unloaded, and the files are compared.
     Unloaded,
-    /// The same, where the file takes the place of another.
+    /// The same, if the file takes the place of another.
     UnloadedOver,
     /// The files alone show what they must.
     Opened,
@@ -90,7 +90,7 @@ enum Then {
 
 const EACH: &[Then] = &[Then::Unloaded, Then::UnloadedOver, Then::Opened];
 
-/// Two directories, numbers 2 and 3, and a file in the first, number 4; where it is to take the place of another, that
+/// Two directories, numbers 2 and 3, and a file in the first, number 4; if it is to take the place of another, that
 /// has number 5. All directories are loaded.
 fn start(rt: &impl Abort, pair: &mut Pair<Global>, is_over: bool) -> bool {
     pair.insert(rt, DIR_A, Kind::Dir, 7)
@@ -100,7 +100,7 @@ fn start(rt: &impl Abort, pair: &mut Pair<Global>, is_over: bool) -> bool {
         && pair.shows(rt)
 }
 
-/// Moves the file over files that stop after so many calls: whether that was done.
+/// Moves the file over files that stop after this many calls: whether that was done.
 fn moves(rt: &impl Abort, pair: &mut Pair<Global>, calls: u64) -> bool {
     pair.mount.calls.set(calls);
     let moved = pair.rename(rt, FROM, TO);
@@ -128,7 +128,7 @@ fn grow_old(mount: &mut Mount<Global>) {
     }
 }
 
-/// Unloads all that can be over files that stop after so many calls: how many directories went.
+/// Unloads all that can be over files that stop after this many calls: how many directories went.
 fn unload_over(rt: &impl Abort, mount: &mut Mount<Global>, calls: u64) -> u64 {
     mount.calls.set(calls);
     mount.unload(rt, &[], 0)

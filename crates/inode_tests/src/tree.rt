@@ -56,7 +56,7 @@ fn moved(rt: &impl Abort, alloc: Global, path: &[u8], from: &[u8], to: &[u8]) ->
     Some(moved)
 }
 
-/// Has a row begin with another front, where it begins with this one.
+/// Has a row begin with another front, if it begins with this one.
 fn move_row(rt: &impl Abort, alloc: Global, row: &mut Row, from: &[u8], to: &[u8]) {
     if let Some(path) = moved(rt, alloc, &row.path, from, to) {
         drop(mem::replace(&mut row.path, path));

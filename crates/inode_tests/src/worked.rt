@@ -43,7 +43,7 @@ pub(crate) enum Does {
     /// Of the directories at and below the path that are so old this many go.
     Unload(u64, u64),
     Tick,
-    /// So many calls on the files still pass.
+    /// This many calls on the files still pass.
     Pass(u64),
     /// .. are left.
     Left(u64),
@@ -53,7 +53,7 @@ pub(crate) enum Does {
     Give(Option<u64>),
     /// That number is the next one.
     Next(u64),
-    /// So many changes were counted.
+    /// This many changes were counted.
     Changes(u64),
     /// This kind of entry stands there, with this number and that object, or contents of the mount's own.
     Look(u64, Kind, Option<Sample>),

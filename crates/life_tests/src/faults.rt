@@ -80,7 +80,7 @@ const CLOSED: Sizes = &[(0, 92), (1, 87), (2, 77)];
 
 const UNCLOSED: Sizes = &[(1, 87), (2, 77)];
 
-/// How the life with the one change ends, where its lines end so, and the files that it leaves.
+/// How the life with the one change ends, if its lines end so, and the files that it leaves.
 #[derive(Clone, Copy)]
 pub(crate) struct Row {
     end: End,

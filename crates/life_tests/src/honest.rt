@@ -1,4 +1,4 @@
-//! A World that is honest: all that is promised of a mount's life where the outside is honest holds of these runs.
+//! A World that is honest: all that is promised of a mount's life if the outside is honest holds of these runs.
 ghost use Rattle.eden_object.specs.Objects.{IsHonest};
 ghost use Rattle.life_tests.specs.Samples.{sample};
 

@@ -1,5 +1,5 @@
 //! Worked rows of mounts' lives: what they say, which objects they ask for, which files they leave, what the next life
-//! over those shows, also where a run was killed, and how each fault ends one.
+//! over those shows, also if a run was killed, and how each fault ends one.
 #![tactic(auto)]
 
 #[cfg(test)]

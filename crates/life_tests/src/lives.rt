@@ -18,7 +18,7 @@ pub(crate) type Stored = MemoryFiles<Outside>;
 pub(crate) struct Life {
     pub(crate) root: Sample,
     pub(crate) opening: Opening,
-    /// How many entries the history may have; none where it only counts them.
+    /// How many entries the history may have; none if it only counts them.
     pub(crate) history: Option<u32>,
     pub(crate) input: &'static str,
     pub(crate) said: &'static str,

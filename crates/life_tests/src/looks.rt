@@ -1,4 +1,4 @@
-//! Sessions that look alone: each object is asked for once, and only where a request needs it.
+//! Sessions that look alone: each object is asked for once, and only if a request needs it.
 use crate::objects::{no_objects, put, samples};
 use crate::sessions::{Session, check, said};
 use std::alloc::Global;
@@ -88,7 +88,7 @@ fn refuses_what_is_not_there(rt: HostRuntime) {
     check(&rt, rt.alloc(), NOT_THERE);
 }
 
-/// The front of a line, with so many times a piece behind it.
+/// The front of a line, with this many times a piece after it.
 fn line(alloc: Global, front: &str, piece: &str, count: usize) -> Result<String, Fail> {
     let mut line = String::from_str(alloc, front)?;
     for _ in 0..count {
@@ -98,7 +98,7 @@ fn line(alloc: Global, front: &str, piece: &str, count: usize) -> Result<String,
     Ok(line)
 }
 
-/// A name of so many letters, and a path of so many names: the front, the piece, and how many.
+/// A name of this many letters, and a path of this many names: the front, the piece, and how many.
 const LIMITS: &[(&str, &str, usize, &str)] = &[
     ("kind /", "a", 255, "err 2 ENOENT\n"),
     ("kind /", "a", 256, "err 36 ENAMETOOLONG\n"),

@@ -14,7 +14,7 @@ struct Row {
     again: Life,
 }
 
-/// Where nothing was loaded the state alone is left.
+/// If nothing was loaded the state alone is left.
 const UNTOUCHED: Row = Row {
     first: Life {
         root: ONE_FILE,
@@ -35,7 +35,7 @@ const UNTOUCHED: Row = Row {
     },
 };
 
-/// Where nothing was changed the numbers of what was loaded are left beside it, and no tree object is asked for again.
+/// If nothing was changed the numbers of what was loaded are left beside it, and no tree object is asked for again.
 const UNCHANGED: Row = Row {
     first: Life {
         root: ONE_FILE,
@@ -56,7 +56,7 @@ const UNCHANGED: Row = Row {
     },
 };
 
-/// So it is where a file is made what it is already.
+/// So it is if a file is made what it is already.
 const PLAIN_ALREADY: Row = Row {
     first: Life {
         root: TWO_FILES,

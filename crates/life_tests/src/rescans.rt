@@ -17,7 +17,7 @@ use test_samples::{ONE_FILE, VERSION_1};
 #[derive(Clone, Copy)]
 enum Damage {
     Removed(u64),
-    /// So many bytes are left of it.
+    /// This many bytes are left of it.
     Cut(u64, usize),
     /// A directory of that body stands in its place.
     Replaced(u64, &'static [u8]),
@@ -130,7 +130,7 @@ fn a_rescan_refuses_what_dangles(rt: HostRuntime) {
     }
 }
 
-/// Lines, of which the last come once so many calls on the files still pass.
+/// Lines, of which the last come once this many calls on the files still pass.
 #[derive(Drop)]
 struct Halves {
     left: &'static [u8],

@@ -320,7 +320,7 @@ impl Met {
     }
 }
 
-/// What a heap of so many bytes has room for. It is given back whole.
+/// What a heap of this many bytes has room for. It is given back whole.
 fn reached_in(rt: &impl Abort, alloc: Global, bytes: usize) -> Option<Reached> {
     let heap = LocalHeap::new(alloc, bytes).expect(rt, "memory");
     let reached = fill_heap(rt, alloc, &heap);
@@ -361,7 +361,7 @@ fn numbered(number: usize) -> Id {
     }
 }
 
-/// Puts so many equal blobs under one key after another.
+/// Puts this many equal blobs under one key after another.
 fn put_many<A: Allocator + Clone>(
     rt: &impl Abort,
     alloc: Global,

@@ -212,7 +212,7 @@ fn left_after(rt: &impl Abort, alloc: Global, mut mount: Mounted, rows: &[(Call,
     left_of(mount)
 }
 
-/// A failure is told to those who wait for the key then, where they still need it.
+/// A failure is told to those who wait for the key then, if they still need it.
 const FAILURES: &[(Call, Answer)] = &[
     (Start(0), Not(StartFault::NoPass)),
     (Start(4), Not(StartFault::NoPass)),
@@ -281,13 +281,13 @@ fn histories_are_full(rt: HostRuntime) {
     assert!(rt; left.busy == Some(2) && left.turns == 3);
 }
 
-/// What the last turn of so many of these events was handed to go on at.
+/// What the last turn of this many of these events was handed to continue at.
 fn handed(rt: &impl Abort, alloc: Global, rows: &[(Call, Answer)], count: usize) -> Option<u64> {
     let rows = rows.get(..count).expect(rt, "so many rows");
     left_after(rt, alloc, mount(rt, alloc, 9, true), rows).handed
 }
 
-/// Two passes wait, and go on; the object comes, and each is told; one asks again, and waits for nothing.
+/// Two passes wait, and continue; the object comes, and each is told; one asks again, and waits for nothing.
 const WAITS: &[(Call, Answer)] = &[
     (Start(1), Began),
     (Turn(1), Waits),
@@ -340,7 +340,7 @@ fn check_handed(
     }
 }
 
-/// A turn goes on at the turn at which its own request waited last, if it did.
+/// A turn continues at the turn at which its own request waited last, if it did.
 #[test]
 fn turns_go_on_where_their_request_waited(rt: HostRuntime) {
     check_handed(&rt, rt.alloc(), WAITS, HANDED);
@@ -483,7 +483,7 @@ fn serve_twelve(rt: &impl Abort, alloc: Global, caller: &mut Caller) {
     assert!(rt; !serves_root(rt, alloc, caller));
 }
 
-/// How often directories are let go after every so many of twelve requests, of which one more is refused.
+/// How often directories are unloaded after every this many of twelve requests, of which one more is refused.
 fn unloads(rt: &impl Abort, alloc: Global, every: u32) -> usize {
     let unloading = Unloading {
         every,
@@ -497,7 +497,7 @@ fn unloads(rt: &impl Abort, alloc: Global, every: u32) -> usize {
     left_of_caller(caller).unloads
 }
 
-/// After every so many requests directories are let go, and how often.
+/// After every this many requests directories are unloaded, and how often.
 const TIMES: &[(u32, usize)] = &[
     (0, 12),
     (1, 12),

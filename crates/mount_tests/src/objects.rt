@@ -341,7 +341,7 @@ fn entry_count(rt: &impl Abort, alloc: Global, tree: Object) -> usize
     count
 }
 
-/// How many entries the framed tree has, where it is one, or why it is none.
+/// How many entries the framed tree has, if it is one, or why it is none.
 fn checked(rt: &impl Abort, alloc: Global, framed: Vec<u8>) -> Result<usize, Cause> {
     let key = Key {
         kind: ObjKind::Tree,
@@ -353,7 +353,7 @@ fn checked(rt: &impl Abort, alloc: Global, framed: Vec<u8>) -> Result<usize, Cau
     }
 }
 
-/// How many entries the tree has, where it is one. What `Object::checked` answers is what `check` answers.
+/// How many entries the tree has, if it is one. What `Object::checked` answers is what `check` answers.
 fn entries_of(rt: &impl Abort, alloc: Global, names: &[&str]) -> Option<usize> {
     let framed = tree_of(rt, alloc, names);
     let answer = check(id_of(framed.as_slice()), ObjKind::Tree, framed.as_slice());
@@ -362,7 +362,7 @@ fn entries_of(rt: &impl Abort, alloc: Global, names: &[&str]) -> Option<usize> {
     count.ok()
 }
 
-/// Names in an order, and how many entries their tree has, where it is one.
+/// Names in an order, and how many entries their tree has, if it is one.
 const ORDERS: &[(&[&str], Option<usize>)] = &[
     (&["a", "a.b", "b"], Some(3)),
     (&["b", "a.b", "a", "c"], Some(4)),
@@ -494,7 +494,7 @@ fn are_ordered(read: &[TreeEntry]) -> bool {
     read.len() == 4
 }
 
-// `a` and `a.b` as Git orders them, where `a` is a directory. Each mode is written and read.
+// `a` and `a.b` as Git orders them, if `a` is a directory. Each mode is written and read.
 #[test]
 fn written_trees_are_read(rt: HostRuntime) {
     let read = read_again(&rt, rt.alloc(), EACH_MODE);

@@ -11,7 +11,7 @@ use Rattle.eden_dematerialise.specs.Dematerialising.{AreDematerialised, AreSoFar
 use Rattle.mountd.specs.Endings.{dematerialised_status}
 
 module _ {W F : Type 0} (w : Ghosts W) (f : Files F W) where
-  -- Files were dematerialised and stand on that tree, or before an error that was done so far. The status tells how that ended, and
+  -- Files were dematerialised and stand on that tree, or before an error that was done so far. The status says how that ended, and
   -- what a wait for the disk answered; no clause says what the disk has then.
   pub record IsDematerialiseRun (to : Id) (files : F) (status : ℕ) : Type 0 where
     pub left : F

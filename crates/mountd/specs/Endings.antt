@@ -50,7 +50,7 @@ abbrev pub close_name : FilesFault → List ℕ
 close_name files.Device = codes "Device"
 close_name files.Memory = codes "Memory"
 
--- .. of why the folder, or the address, isn't held
+-- .. of why the directory, or the address, isn't held
 abbrev pub hold_name : HoldFault → List ℕ
 hold_name hold.Locked = codes "Locked"
 hold_name hold.Device = codes "Device"
@@ -107,12 +107,12 @@ abbrev pub import_status : Result ⊤ ImportFault → ℕ
 import_status (Ok _) = 0
 import_status (Err fault) = 5
 
--- .. and of what was done well: by whether it could be told
+-- .. and of what was done well: by whether it could be written
 abbrev pub told_status : Result ⊤ Error → ℕ
 told_status (Ok _) = 0
 told_status (Err error) = 4
 
--- .. and of the tidying of an overlay, by what it came to, and whether that could be told
+-- .. and of the tidying of an overlay, by what it came to, and whether that could be written
 abbrev pub tidied_status : Result (Result ⊤ Error) TidyFault → ℕ
 tidied_status (Ok written) = told_status written
 tidied_status (Err (tidy.Open fault)) = 3
@@ -126,7 +126,7 @@ repair_status (rescan.Damaged k refusal) = 3
 repair_status rescan.Device = 4
 repair_status rescan.Memory = 4
 
--- .. and of its repair, by what it came to, whether that was stored, and whether it could be told
+-- .. and of its repair, by what it came to, whether that was stored, and whether it could be written
 abbrev pub repaired_status : Result ℕ RescanFault → Result ⊤ FilesFault → Result ⊤ Error → ℕ
 repaired_status (Err fault) stored written = repair_status fault
 repaired_status (Ok _) (Err fault) written = 4

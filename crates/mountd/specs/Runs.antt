@@ -1,4 +1,4 @@
--- What a run is: a mount's life with the history that is asked for, and the status that tells how it ended.
+-- What a run is: a mount's life with the history that is asked for, and the status that says how it ended.
 use Rattle.std.specs.Prelude.{◌≡◌, ◌-◌, ◌^◌, ℕ, Bool, true, false}
 use Rattle.std.specs.declared.io.Read.{Ghosts as Read}
 use Rattle.std.specs.declared.io.Write.{Ghosts as Write}
@@ -41,8 +41,8 @@ limit_of keeping.Kept settings = settings.history
 limit_of keeping.Counted settings = 2 ^ 64 - 1
 
 module _ {W F S : Type 0} (w : Ghosts W) (f : Files F W) (fetched : S → Id → Answer → S → Type 0) (copies : Bool) (limit : ℕ) where
-  -- A mount of one caller lived, whose history copies replies or doesn't and may become so long, and the status tells how
-  -- that ended. The input and the output are the program's own, of which contracts know no bytes.
+  -- A mount of one caller lived, whose history copies replies or doesn't and may become this long, and the status says
+  -- how that ended. The input and the output are the program's own, of which contracts know no bytes.
   pub record IsRun (base : Base) (settings : Settings) (backing : Backing F S) (status : ℕ) : Type 0 where
     pub input : Known × Known
     pub output : Known × Known
@@ -63,7 +63,7 @@ module _ {W F S : Type 0} (w : Ghosts W) (f : Files F W) (fetched : S → Id →
     pub told : status ≡ folder_status left.outcome
 
 module _ {W F I O : Type 0} (w : Ghosts W) (f : Files F W) (i : Read I) (o : Write O) (limit : ℕ) where
-  -- a mount of many callers lived, whose history may become so long, and the status tells how that ended
+  -- a mount of many callers lived, whose history may become this long, and the status says how that ended
   pub record IsSharedRun (base : Base) (settings : Settings) (files : F) (status : ℕ) : Type 0 where
     pub left : SharedEnding F
     pub lived : LivesShared w f i o settings.passes limit base.root files left
@@ -71,7 +71,7 @@ module _ {W F I O : Type 0} (w : Ghosts W) (f : Files F W) (i : Read I) (o : Wri
     pub told : status ≡ shared_status left.outcome
 
 module _ {W F V O : Type 0} (w : Ghosts W) (f : Files F W) (v : Receiver V) (o : Sender O) (Comes : Coming) (limit : ℕ) where
-  -- a mount was shown as a folder that looks so by several threads, whose lines give such messages, and the status tells how that
+  -- a mount was shown as a folder that looks so by several threads, whose lines give such messages, and the status says how that
   -- ended
   pub record IsSharedFolderRun (base : Base) (settings : Settings) (files : F) (manner : Manner) (status : ℕ) : Type 0 where
     pub left : SharedFolderEnding F

@@ -15,7 +15,7 @@ use Rattle.mountd.specs.Runs.{IsSharedRun, limit_of}
 use Rattle.mountd.specs.declared.mount_files.EitherFiles.{EitherFiles}
 use Rattle.mountd.specs.declared.mount_files.EitherFiles.TheVariants.{Memory, Overlay}
 
--- how what a folder keeps is opened
+-- how what a directory keeps is opened
 abbrev pub opening_of : Bool → Opening
 opening_of true = Rescan
 opening_of false = Closed
@@ -29,22 +29,22 @@ abbrev pub IsNothing : Stored → Type 0
 IsNothing F = (number : ℕ) → F number ≡ None
 
 module _ {W I O : Type 0} (w : Ghosts W) (i : Read I) (o : Write O) where
-  -- a mount over these files was served as the options say, and the status tells how that ended
+  -- a mount over these files was served as the options say, and the status says how that ended
   abbrev pub IsAskedRun : {F : Type 0} → Files F W → MountOptions → F → ℕ → Type 0
   IsAskedRun f options files status =
       IsSharedRun w f i o (limit_of options.history options.limits) (base_of options) options.limits files status
 
   module _ {M K : Type 0} (f : Files (EitherFiles M K) W) where
-    -- .. over a folder's files
+    -- .. over a directory's files
     abbrev pub IsOverlayRun : MountOptions → ℕ → Type 0
     IsOverlayRun options status = (files : K) × IsAskedRun f options (Overlay files) status
 
-    -- .. over files in memory, of which none is there yet, if no folder is to keep the changes, and else over a folder's
+    -- .. over files in memory, of which none is there yet, if no directory is to keep the changes, and else over a directory's
     abbrev pub IsKeptRun : {T : Type 0} → Option T → MountOptions → ℕ → Type 0
     IsKeptRun None options status = (files : M) × IsNothing (f.stored (Memory files)) × IsAskedRun f options (Memory files) status
     IsKeptRun (Some folder) options status = IsOverlayRun options status
 
-    -- .. or the folder, or where objects come from, couldn't be opened, and the status is 3
+    -- .. or the directory, or where objects come from, couldn't be opened, and the status is 3
     abbrev pub IsServeRun : MountOptions → ℕ → Type 0
     IsServeRun options status = (status ≡ 3) ⊎ IsKeptRun options.overlay options status
 

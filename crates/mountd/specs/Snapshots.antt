@@ -45,7 +45,7 @@ how_letter how.Removed = codes "D"
 how_letter how.Modified = codes "M"
 how_letter how.Retyped = codes "T"
 
--- what stands there, or stood there where nothing does
+-- what stands there, or stood there if nothing does
 abbrev pub mode_word : Mode → List ℕ
 mode_word mode.File = codes "file"
 mode_word mode.Exec = codes "exec"
@@ -53,7 +53,7 @@ mode_word mode.Link = codes "link"
 mode_word mode.Dir = codes "dir"
 mode_word mode.Gitlink = codes "submodule"
 
--- what is put behind the path of a change that is told by its top alone
+-- what is put after the path of a change that is reported by its top alone
 abbrev pub whole_word : Bool → List ℕ
 whole_word true = codes " whole"
 whole_word false = []

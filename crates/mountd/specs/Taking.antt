@@ -40,7 +40,7 @@ module _ {W F : Type 0} (w : Ghosts W) (f : Files F W) where
     pub refused : IfErr outcome (IsTakeFault w.honest root (f.stored files) (f.failures files) (f.failures left))
     pub unchanged : w.honest → f.stored left ≡ f.stored files
 
-  -- What its files show is in the sink as Git's objects, each behind those that it names, and the tree of that id is it,
+  -- What its files show is in the sink as Git's objects, each after those that it names, and the tree of that id is it,
   -- without empty directories, with the commit's submodules.
   pub record Takes {K : Type 0} (k : Sink K W) (root : Id) (files left : F) (sink filled : K) (outcome : Result Id TakeFault) : Type 0 where
     pub asks : AsksClosed root files left outcome
@@ -63,7 +63,7 @@ module _ {W F : Type 0} (w : Ghosts W) (f : Files F W) where
   Tells c false root files left sink filled outcome = AsksClosed root files left outcome × TellsShown c root files left sink filled outcome
   Tells c true root files left sink filled outcome = IfErr outcome IsSnapshotFault × TellsShown c root files left sink filled outcome
 
-  -- What was changed was told to a sink, which then wrote out what it held back, and the status tells how that ended.
+  -- What was changed was told to a sink, which then wrote out what it held back, and the status says how that ended.
   pub record IsChangesRun {C : Type 0} (c : ChangeSink C W) (h : HoldsBack C) (running : Bool) (root : Id) (files : F) (sink : C) (status : ℕ) : Type 0 where
     pub left : F
     pub filled : C
@@ -74,7 +74,7 @@ module _ {W F : Type 0} (w : Ghosts W) (f : Files F W) where
     pub wrote : h.writes_out filled written done
     pub told : status ≡ taken_status outcome written
 
-  -- A snapshot was taken, and the status tells how that ended, and whether its id could be told.
+  -- A snapshot was taken, and the status says how that ended, and whether its id could be written.
   pub record IsSnapshotRun {K : Type 0} (k : Sink K W) (root : Id) (files : F) (sink : K) (status : ℕ) : Type 0 where
     pub left : F
     pub filled : K

@@ -39,19 +39,19 @@ IsEarly (server.Listen fault) = ⊤
 IsEarly (server.Session fault) = ⊥
 
 module _ {I O : Type 0} (i : Read I) (o : Write O) where
-  -- .. from a folder, or from a repository
+  -- .. from a directory, or from a repository
   abbrev pub IsAnswered : Ended → Type 0
   IsAnswered ended = IsAnsweredFrom FetchedFromFolder i o ended ⊎ IsAnsweredFrom FetchedFromGit i o ended
 
-  -- so many connections were answered, and this is told of them: the first fault, in the order in which they were taken
+  -- this many connections were answered, and this is reported of them: the first fault, in the order in which they were taken
   pub record HaveEnded (count : ℕ) (told : Ended) : Type 0 where
     pub ends : List Ended
     pub so_many : length ends ≡ count
     pub answered : AllByRecursion IsAnswered ends
     pub is : told ≡ first_ended ends
 
-  -- Connections were taken, at most so many, and all of them unless listening failed. Each that was taken was answered. The
-  -- fault of listening is told, or else the first of a connection.
+  -- Connections were taken, at most this many, and all of them unless listening failed. Each that was taken was answered.
+  -- The fault of listening is reported, or else the first of a connection.
   pub record IsServed (sessions : ℕ) (told : Result ⊤ ServerFault) : Type 0 where
     pub taken : Result ⊤ HoldFault
     pub count : ℕ
@@ -61,6 +61,6 @@ module _ {I O : Type 0} (i : Read I) (o : Write O) where
     pub have_ended : HaveEnded count ended
     pub is : told ≡ first_server_fault taken ended
 
-  -- .. or the repository couldn't be opened, which is told then
+  -- .. or the repository couldn't be opened, which is reported then
   abbrev pub ServesObjects : ℕ → Result ⊤ ServerFault → Type 0
   ServesObjects sessions told = ((fault : GitFault) × (told ≡ Err (server.Open fault))) ⊎ IsServed sessions told

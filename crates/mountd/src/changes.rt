@@ -54,7 +54,7 @@ pub fn changes(rt: &HostRuntime, options: ChangesOptions) -> ExitCode {
     }
 }
 
-/// Tells them of these files, where they could be opened.
+/// Tells them of these files, if they could be opened.
 fn tell_files<F: Files<Outside>>(
     rt: &HostRuntime,
     root: Id,
@@ -87,7 +87,7 @@ fn lines(rt: &HostRuntime) -> io::Result<LineSink<Stdout>> {
     LineSink::new(rt.alloc(), rt.stdout())
 }
 
-/// Tells them where its objects' repository could be opened.
+/// Tells them if its objects' repository could be opened.
 fn tell_opened<W: World, F: Files<W>, C: ChangeSink<W> + HoldsBack + Drop, S: Source<W> + Drop>(
     rt: &HostRuntime,
     looked: Looked<F>,
@@ -105,7 +105,7 @@ fn tell_opened<W: World, F: Files<W>, C: ChangeSink<W> + HoldsBack + Drop, S: So
     }
 }
 
-/// Tells them where there was memory for what they are told to.
+/// Tells them if there was memory for what they are told to.
 fn tell_made<W: World, F: Files<W>, C: ChangeSink<W> + HoldsBack + Drop, S: Source<W> + Drop>(
     rt: &HostRuntime,
     looked: Looked<F>,

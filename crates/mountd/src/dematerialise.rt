@@ -53,7 +53,7 @@ fn move_with<F: Files<Outside>>(rt: &HostRuntime, objects: Objects, moving: Movi
     run_opened::<Outside, _, _>(rt, moving, object_source(rt, objects))
 }
 
-/// Has it stand there where its objects' repository could be opened.
+/// Has it stand there if its objects' repository could be opened.
 fn run_opened<W: World, F: Files<W>, S: Source<W> + Drop>(
     rt: &HostRuntime,
     moving: Moving<F>,

@@ -49,7 +49,7 @@ pub fn folder<R: Threads + Wait + Sync>(
     }
 }
 
-/// Shows a mount over an overlay's folder that is held.
+/// Shows a mount over an overlay's directory that is held.
 fn show_overlay<R: Threads + Wait + Sync>(
     threads: &R,
     rt: &HostRuntime,
@@ -101,7 +101,7 @@ fn show_alone(rt: &HostRuntime, options: MountOptions, look: Look, files: MountF
     run_opened::<Outside, _, _>(rt, base, history, &limits, look, files, source)
 }
 
-/// Shows a mount over these files, where its objects' repository could be opened.
+/// Shows a mount over these files, if its objects' repository could be opened.
 fn run_opened<W: World, F: Files<W>, S: Source<W> + Drop>(
     rt: &HostRuntime,
     base: Base,

@@ -1,4 +1,4 @@
-//! What one program has at a time: the folder that keeps the changes, and the path that it listens at.
+//! What one program has at a time: the directory that keeps the changes, and the path that it listens at.
 ghost use Rattle.std.specs.Prelude.{◌≡◌, IfOk, IsErr, IsTrue, option_map, string_bytes};
 ghost use Rattle.std.specs.Option.{is_some};
 ghost use Rattle.std.specs.Path.{path_buf_bytes};
@@ -19,13 +19,13 @@ use std::os::unix::fs::OpenOptionsExt;
 use std::path::{Path, PathBuf};
 use std::rt::Files;
 
-/// Whoever may come to the folder may hold it.
+/// Whoever may come to the directory may hold it.
 const FOR_ALL: u32 = 0o666;
 
 /// Nobody else may hold a path that this user listens at.
 const FOR_ONE: u32 = 0o600;
 
-/// Why a folder, or an address, can't be held.
+/// Why a directory, or an address, can't be held.
 #[derive(Clone, Copy, Debug, PartialEq, Eq)]
 pub enum HoldFault {
     /// Another program holds it.
@@ -90,11 +90,11 @@ impl From<TryLockError> for HoldFault {
     }
 }
 
-/// Makes the folder where it isn't there, and locks the file `lock` in it. The folder is held for as long as the answer
-/// is there; where the program is killed, the system lets it go.
+/// Makes the directory if it isn't there, and locks the file `lock` in it. The directory is held for as long as the
+/// answer is there; if the program is killed, the system lets it go.
 ///
-/// `Locked`, where another program holds it; `Device` and `Memory`, where those failed, or the folder or its lock can't
-/// be made.
+/// `Locked`, if another program holds it; `Device` and `Memory`, if those failed, or the directory or its lock can't be
+/// made.
 fn hold<R: Files<File = File>>(
     files: &R,
     alloc: Global,
@@ -105,7 +105,7 @@ fn hold<R: Files<File = File>>(
     locked(files, path.as_path(), FOR_ALL)
 }
 
-/// Makes the file where it isn't there, with this mode, and locks it.
+/// Makes the file if it isn't there, with this mode, and locks it.
 fn locked<R: Files<File = File>>(files: &R, path: Path<'_>, mode: u32) -> Result<File, HoldFault> {
     // Opening for reading and writing doesn't wait, should there be a pipe of that name.
     let lock = OpenOptions::new()
@@ -118,7 +118,7 @@ fn locked<R: Files<File = File>>(files: &R, path: Path<'_>, mode: u32) -> Result
     Ok(lock)
 }
 
-/// Holds the folder, where there is one. It comes back with its lock.
+/// Holds the directory, if there is one. It comes back with its lock.
 ///
 /// Errors: those of `hold`.
 pub fn hold_overlay<R: Files<File = File>>(
@@ -136,9 +136,9 @@ pub fn hold_overlay<R: Files<File = File>>(
     Ok(Some((folder, lock)))
 }
 
-/// Holds a folder that is there. It comes back with its lock.
+/// Holds a directory that is there. It comes back with its lock.
 ///
-/// Errors: those of `hold`, and `Device` where there is no such folder.
+/// Errors: those of `hold`, and `Device` if there is no such directory.
 pub fn hold_existing<R: Files<File = File>>(
     files: &R,
     alloc: Global,
@@ -159,11 +159,11 @@ pub struct HeldPath {
     lock: File,
 }
 
-/// Holds the path that is to be listened at, where it is one and no port: locks the file beside it that is named as it
-/// with `.lock` behind, and removes the socket of a program that left one there.
+/// Holds the path that is to be listened at, if it is one and no port: locks the file beside it that is named as it
+/// with `.lock` appended, and removes the socket of a program that left one there.
 ///
-/// `Locked`, where another program listens there; `Device` and `Memory`, where those failed, or the lock can't be made.
-/// None of them for a port.
+/// `Locked`, if another program listens there; `Device` and `Memory`, if those failed, or the lock can't be made. None
+/// of them for a port.
 pub fn hold_address<R: Files<File = File> + Net>(
     rt: &R,
     alloc: Global,
@@ -195,7 +195,7 @@ pub fn let_go<R: Files + Net>(rt: &R, held: Option<HeldPath>) {
     drop(lock);
 }
 
-/// How what a folder keeps is opened.
+/// How what a directory keeps is opened.
 pub fn opening(rescan: bool) -> Opening
     ensures { result ≡ opening_of rescan }
 {

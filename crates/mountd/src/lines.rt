@@ -1,4 +1,4 @@
-//! Changes that are told as lines.
+//! Changes that are reported as lines.
 ghost use Rattle.std.specs.Prelude.{◌≡◌};
 ghost use Rattle.mountd.specs.Snapshots.{how_letter, mode_word, whole_word};
 
@@ -94,7 +94,7 @@ fn how_letter(how: How) -> &'static str
     }
 }
 
-// What stands there, or stood there where nothing does.
+// What stands there, or stood there if nothing does.
 fn mode_word(mode: Mode) -> &'static str
     ensures { result.now ≡ mode_word mode }
 {
@@ -107,7 +107,7 @@ fn mode_word(mode: Mode) -> &'static str
     }
 }
 
-// What is put behind the path of a change that is told by its top alone.
+// What is put after the path of a change that is reported by its top alone.
 fn whole_word(whole: bool) -> &'static str
     ensures { result.now ≡ whole_word whole }
 {

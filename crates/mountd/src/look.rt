@@ -1,4 +1,4 @@
-//! How a folder looks: whose it is, what is told of its disk, and when what it shows was changed.
+//! How a folder looks: whose it is, what is reported of its disk, and when what it shows was changed.
 use eden_fuse_format::{StatFsOut, Time};
 use eden_fuse_life::Look;
 use eden_fuse_meaning::Owner;
@@ -15,7 +15,7 @@ use std::time::{SystemTime, UNIX_EPOCH};
 /// For how many seconds the kernel may keep what it was told, since nobody else changes it.
 const KEEP: u64 = 60;
 
-/// What is told of the disk: 4 TiB, half of them free. What changes need of room is the overlay's.
+/// What is reported of the disk: 4 TiB, half of them free. What changes need of room is the overlay's.
 const SPACE: StatFsOut = StatFsOut {
     blocks: 1 << 30,
     bfree: 1 << 29,
@@ -27,7 +27,7 @@ const SPACE: StatFsOut = StatFsOut {
     frsize: 4_096,
 };
 
-/// Who runs this program, to whom all that is shown belongs; root where that can't be told.
+/// Who runs this program, to whom all that is shown belongs; root if that can't be told.
 fn owner(rt: &HostRuntime) -> Owner {
     match fs::metadata(rt, Path::new("/proc/self")) {
         Err(_) => Owner { uid: 0, gid: 0 },
@@ -38,7 +38,7 @@ fn owner(rt: &HostRuntime) -> Owner {
     }
 }
 
-/// What the clock says; 1970 where it says nothing.
+/// What the clock says; 1970 if it says nothing.
 fn now(rt: &HostRuntime) -> Time {
     let none = Time {
         seconds: 0,
@@ -75,7 +75,7 @@ pub fn look(rt: &HostRuntime, since: u64) -> Look {
     }
 }
 
-/// Notes when the contents and directories were changed that these files of a folder have: as each was stored. What
+/// Notes when the contents and directories were changed that these files of a directory have: as each was stored. What
 /// can't be looked at has no time of its own.
 pub fn note_changes<F: Files<Outside>>(
     rt: &HostRuntime,

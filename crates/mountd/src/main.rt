@@ -48,7 +48,7 @@ fn words(rt: &(impl Env + Alloc<A = Global>)) -> io::Result<Vec<String>> {
     Ok(words)
 }
 
-/// Imports a folder, and prints the id of its tree.
+/// Imports a directory, and prints the id of its tree.
 fn import(rt: &HostRuntime, options: ImportOptions) -> Result<(), ImportFault> {
     let progress = if rt.stderr().is_terminal() {
         Progress::Told

@@ -1,4 +1,4 @@
-//! The files that a mount's changes are kept in: in memory, or in an overlay's folder.
+//! The files that a mount's changes are kept in: in memory, or in an overlay's directory.
 use crate::overlay_files::OverlayFiles;
 use eden_model::{Obstacle, Outside, World};
 use eden_overlay::{Files, FilesFault, MemoryFiles};

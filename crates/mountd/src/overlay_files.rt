@@ -1,4 +1,4 @@
-//! The files of an overlay's folder.
+//! The files of an overlay's directory.
 use crate::hold::HoldFault;
 use eden_model::Outside;
 use eden_overlay::FolderFiles;
@@ -6,12 +6,12 @@ use eden_overlay_journal::{FolderJournal, Journaled, taken_in};
 use std::fs;
 use std::path::PathBuf;
 
-/// Files in a folder, with a journal over them.
+/// Files in a directory, with a journal over them.
 pub type OverlayFiles = Journaled<FolderFiles<HostRuntime>, FolderJournal<HostRuntime>>;
 
-/// The files of a folder that is held, once what a killed program left in its journal has gone into them.
+/// The files of a directory that is held, once what a killed program left in its journal has gone into them.
 ///
-/// `Device` and `Memory`, where those failed.
+/// `Device` and `Memory`, if those failed.
 pub fn overlay_files(rt: &HostRuntime, folder: PathBuf) -> Result<OverlayFiles, HoldFault> {
     let alloc = rt.alloc();
     let journal = FolderJournal::open(*rt, alloc, &folder)?;
@@ -19,9 +19,9 @@ pub fn overlay_files(rt: &HostRuntime, folder: PathBuf) -> Result<OverlayFiles, 
     Ok(taken_in::<Outside, _, _>(alloc, files, journal)?)
 }
 
-/// The files of a folder over which a mount runs, with what its journal says by now. None of them is changed.
+/// The files of a directory over which a mount runs, with what its journal says by now. None of them is changed.
 ///
-/// `Device`, also where there is no such folder, and `Memory`, where those failed.
+/// `Device`, also if there is no such directory, and `Memory`, if those failed.
 pub fn running_files(rt: &HostRuntime, folder: String) -> Result<OverlayFiles, HoldFault> {
     let folder = PathBuf::from(folder);
     fs::metadata(rt, folder.as_path())?;

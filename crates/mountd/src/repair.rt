@@ -1,4 +1,4 @@
-//! An overlay without what can't be had.
+//! An overlay without what is unavailable.
 use crate::hold::hold_existing;
 use crate::overlay_files::overlay_files;
 use crate::path_text::path_text;
@@ -11,7 +11,7 @@ use std::alloc::{AllocError, Global};
 use std::io::{self, BufWriter, Write};
 use std::process::ExitCode;
 
-/// Takes out of an overlay what can't be had, so that a rescan takes it, and prints a line for each place.
+/// Takes out of an overlay what is unavailable, so that a rescan takes it, and prints a line for each place.
 pub fn repair(rt: &HostRuntime, options: RepairOptions) -> ExitCode {
     let RepairOptions { root, overlay } = options;
     match hold_existing(rt, rt.alloc(), overlay) {
@@ -27,7 +27,7 @@ pub fn repair(rt: &HostRuntime, options: RepairOptions) -> ExitCode {
     }
 }
 
-/// Repairs them, waits until the disk has them, and tells what was found.
+/// Repairs them, waits until the disk has them, and reports what was found.
 fn repair_files(rt: &HostRuntime, files: FolderFiles<HostRuntime>, root: Id) -> ExitCode {
     let alloc = rt.alloc();
     let repaired = eden_repair::repair::<Outside, _>(alloc, files, root);

@@ -1,6 +1,6 @@
 //! How a run ends: with status 0, or with a line on standard error and another.
 //!
-//! Where standard error can't be written, the status alone tells.
+//! If standard error can't be written, there is only the status.
 ghost use Rattle.std.specs.Prelude.{◌≡◌};
 ghost use Rattle.std.specs.Process.{exit_status};
 ghost use Rattle.mountd.specs.Endings.{close_name, dematerialise_name, dematerialised_status, folder_status};
@@ -46,7 +46,7 @@ const ESTALE: u32 = 116;
 
 const EDQUOT: u32 = 122;
 
-/// Tells why the arguments can't be read, as where they are not UTF-8. Status 2.
+/// Reports why the arguments can't be read, as when they are not UTF-8. Status 2.
 pub fn arguments<R: Eprint>(rt: &R, error: &io::Error) -> ExitCode
     ensures { exit_status result ≡ 2 }
 {
@@ -54,7 +54,7 @@ pub fn arguments<R: Eprint>(rt: &R, error: &io::Error) -> ExitCode
     ExitCode::from(REFUSED)
 }
 
-/// Tells why the command line is refused. Status 2.
+/// Reports why the command line is refused. Status 2.
 pub fn command_line<R: Eprint>(rt: &R, error: &OptionsError) -> ExitCode
     ensures { exit_status result ≡ 2 }
 {
@@ -66,7 +66,7 @@ pub fn command_line<R: Eprint>(rt: &R, error: &OptionsError) -> ExitCode
     ExitCode::from(REFUSED)
 }
 
-/// Tells by which fault, called `name`, the overlay or the repository of its objects wasn't opened. Status 3.
+/// Reports by which fault, called `name`, the overlay or the repository of its objects wasn't opened. Status 3.
 pub fn unopened<R: Eprint>(rt: &R, name: &str) -> ExitCode
     ensures { exit_status result ≡ 3 }
 {
@@ -74,16 +74,16 @@ pub fn unopened<R: Eprint>(rt: &R, name: &str) -> ExitCode
     ExitCode::from(UNOPENED)
 }
 
-/// Tells by which fault, called `name`, nobody listens. Status 4.
+/// Reports by which fault, called `name`, nobody listens. Status 4.
 pub fn unheard<R: Eprint>(rt: &R, name: &str) -> ExitCode
     ensures { exit_status result ≡ 4 }
 {
     ended(rt, "listen", name)
 }
 
-/// Tells how a mount's life ended, where it didn't end well: by which fault, without the fault's values.
+/// Reports how a mount's life ended, if it didn't end well: by which fault, without the fault's values.
 ///
-/// Status 0; 3, where the overlay wasn't opened; 4, where the session or the close ended in a fault.
+/// Status 0; 3, if the overlay wasn't opened; 4, if the session or the close ended in a fault.
 pub fn ending<R: Eprint>(rt: &R, outcome: Result<(), LifeFault>) -> ExitCode
     ensures { exit_status result ≡ status_of outcome }
 {
@@ -95,9 +95,9 @@ pub fn ending<R: Eprint>(rt: &R, outcome: Result<(), LifeFault>) -> ExitCode
     }
 }
 
-/// Tells how a shared mount's life ended, where it didn't end well: by which fault, without the fault's values.
+/// Reports how a shared mount's life ended, if it didn't end well: by which fault, without the fault's values.
 ///
-/// Status 0; 3, where the overlay wasn't opened; 4, where listening, a session or the close ended in a fault.
+/// Status 0; 3, if the overlay wasn't opened; 4, if listening, a session or the close ended in a fault.
 pub fn shared_ending<R: Eprint>(rt: &R, outcome: Result<(), SharedLifeFault>) -> ExitCode
     ensures { exit_status result ≡ shared_status outcome }
 {
@@ -110,10 +110,10 @@ pub fn shared_ending<R: Eprint>(rt: &R, outcome: Result<(), SharedLifeFault>) ->
     }
 }
 
-/// Tells how a folder's life ended, where it didn't end well: by which fault, without the fault's values. That what was
-/// written last wasn't all stored is told beside the session's fault too.
+/// Reports how a folder's life ended, if it didn't end well: by which fault, without the fault's values. That what was
+/// written last wasn't all stored is reported beside the session's fault too.
 ///
-/// Status 0; 3, where the overlay wasn't opened; 4, where the session, the last stores or the close ended in a fault.
+/// Status 0; 3, if the overlay wasn't opened; 4, if the session, the last stores or the close ended in a fault.
 pub fn folder_ending<R: Eprint>(
     rt: &R,
     outcome: Result<(), FolderFault>,
@@ -130,7 +130,7 @@ pub fn folder_ending<R: Eprint>(
     }
 }
 
-// Tells by which fault a session with the kernel ended, and upon which error what waited then wasn't stored, if it
+// Reports by which fault a session with the kernel ended, and upon which error what waited then wasn't stored, if it
 // wasn't. Status 4.
 fn session_ended<R: Eprint>(rt: &R, fault: SessionFault, unstored: Option<u32>) -> ExitCode
     ensures { exit_status result ≡ 4 }
@@ -170,9 +170,9 @@ fn session_name(fault: SessionFault) -> &'static str
     }
 }
 
-/// Tells how a server of objects ended, where it didn't end well.
+/// Reports how a server of objects ended, if it didn't end well.
 ///
-/// Status 0; 3, where the repository wasn't opened; 4, where listening or a session ended in a fault.
+/// Status 0; 3, if the repository wasn't opened; 4, if listening or a session ended in a fault.
 pub fn server<R: Eprint>(rt: &R, outcome: Result<(), ServerFault>) -> ExitCode
     ensures { exit_status result ≡ server_status outcome }
 {
@@ -184,7 +184,7 @@ pub fn server<R: Eprint>(rt: &R, outcome: Result<(), ServerFault>) -> ExitCode
     }
 }
 
-/// Tells by which fault nothing was imported, where there was one. Status 0, or 5.
+/// Reports by which fault nothing was imported, if there was one. Status 0, or 5.
 pub fn import<R: Eprint>(rt: &R, outcome: Result<(), ImportFault>) -> ExitCode
     ensures { exit_status result ≡ import_status outcome }
 {
@@ -197,9 +197,9 @@ pub fn import<R: Eprint>(rt: &R, outcome: Result<(), ImportFault>) -> ExitCode
     }
 }
 
-/// Tells by which fault an overlay wasn't tidied, or that how much was removed couldn't be written, where that is so.
+/// Reports by which fault an overlay wasn't tidied, or that how much was removed couldn't be written, if that is so.
 ///
-/// Status 0; 3, where the overlay isn't one that was closed; 4, where a removal failed, or the line can't be written.
+/// Status 0; 3, if the overlay isn't one that was closed; 4, if a removal failed, or the line can't be written.
 pub fn tidied<R: Eprint>(rt: &R, outcome: Result<io::Result<()>, TidyFault>) -> ExitCode
     ensures { exit_status result ≡ tidied_status outcome }
 {
@@ -210,10 +210,9 @@ pub fn tidied<R: Eprint>(rt: &R, outcome: Result<io::Result<()>, TidyFault>) -> 
     }
 }
 
-/// Tells how the repair of an overlay ended, once what was found was written, or could not be.
+/// Reports how the repair of an overlay ended, once what was found was written, or could not be.
 ///
-/// Status 0; 3, where a rescan refuses the overlay still; 4, where the device or memory failed, or a line can't be
-/// written.
+/// Status 0; 3, if a rescan refuses the overlay still; 4, if the device or memory failed, or a line can't be written.
 pub fn repaired<R: Eprint>(
     rt: &R,
     outcome: Result<u64, RescanFault>,
@@ -233,9 +232,9 @@ pub fn repaired<R: Eprint>(
     }
 }
 
-/// Tells by which fault an overlay doesn't stand on another tree, or may not stay there, where that is so.
+/// Reports by which fault an overlay doesn't stand on another tree, or may not stay there, if that is so.
 ///
-/// Status 0; 4, where a file or an object failed, or the disk.
+/// Status 0; 4, if a file or an object failed, or the disk.
 pub fn dematerialised<R: Eprint>(
     rt: &R,
     outcome: Result<(), DematerialiseFault>,
@@ -250,7 +249,7 @@ pub fn dematerialised<R: Eprint>(
     }
 }
 
-/// Tells by which fault `what` couldn't be written, where it couldn't be. Status 0, or 4.
+/// Reports by which fault `what` couldn't be written, if it couldn't be. Status 0, or 4.
 pub fn told<R: Eprint>(rt: &R, what: &str, written: io::Result<()>) -> ExitCode
     ensures { exit_status result ≡ told_status written }
 {

@@ -33,8 +33,8 @@ use std::thread::Threads;
 // What a caller is connected by.
 type Connection = Stream<TcpStream>;
 
-/// Serves a session to each connection to an address, which is told on standard output, until as many as are asked for
-/// have ended. A path is held before anything is opened; where it can't be, the status is 4.
+/// Serves a session to each connection to an address, which is printed on standard output, until as many as are asked
+/// for have ended. A path is held before anything is opened; if it can't be, the status is 4.
 pub fn serve<R: Threads + Wait + Sync>(
     threads: &R,
     rt: &HostRuntime,
@@ -77,7 +77,7 @@ fn serve_held<R: Threads + Wait + Sync>(
     status
 }
 
-/// Serves sessions over the files of a folder that is held.
+/// Serves sessions over the files of a directory that is held.
 fn serve_folder<R: Threads + Wait + Sync>(
     threads: &R,
     rt: &HostRuntime,
@@ -95,7 +95,7 @@ fn serve_folder<R: Threads + Wait + Sync>(
     serve_files(threads, rt, options, MountFiles::Overlay(files))
 }
 
-/// Serves sessions over these files, with the objects that are asked for. Status 3, where those can't be had.
+/// Serves sessions over these files, with the objects that are asked for. Status 3, if those are unavailable.
 fn serve_files<R: Threads + Wait + Sync>(
     threads: &R,
     rt: &HostRuntime,
@@ -130,7 +130,7 @@ fn serve_files<R: Threads + Wait + Sync>(
     )
 }
 
-/// Serves sessions on a mount over these files, where the sources of its fetchers could be made.
+/// Serves sessions on a mount over these files, if the sources of its fetchers could be made.
 fn serve_fetched<
     W: World + Send,
     F: Files<W> + Send,

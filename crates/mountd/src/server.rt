@@ -31,7 +31,7 @@ pub enum ServerFault {
     Session(AnswerFault),
 }
 
-/// Serves a folder's objects, or a repository's, at an address, which is told on standard output, until as many
+/// Serves a directory's objects, or a repository's, at an address, which is printed on standard output, until as many
 /// connections as are asked for have ended. A path is held meanwhile.
 pub fn serve_objects<R: Threads>(
     threads: &R,
@@ -79,7 +79,7 @@ fn serve_held<R: Threads>(
     first_fault(taken, ended)
 }
 
-// A source for each connection. Where they aren't a repository's, the only fault is want of memory, as in listening.
+// A source for each connection. If they aren't a repository's, the only fault is want of memory, as in listening.
 fn served_sources(
     rt: &HostRuntime,
     objects: Served,

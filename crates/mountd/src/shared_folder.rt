@@ -56,7 +56,7 @@ pub fn share_files<R: Threads + Wait + Sync>(
     )
 }
 
-/// Shows a mount over these files, where the sources of its threads could be made.
+/// Shows a mount over these files, if the sources of its threads could be made.
 fn share_fetched<
     W: World + Send,
     F: Files<W> + Send,

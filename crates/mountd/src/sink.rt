@@ -1,4 +1,4 @@
-//! Objects of a snapshot that go into a folder.
+//! Objects of a snapshot that go into a directory.
 use crate::path_text::path_text;
 use eden_model::{Name, Outside};
 use eden_object_writer::{ImportFault, Store};
@@ -7,7 +7,7 @@ use eden_snapshot::{LeftOut, Sink};
 use std::alloc::Global;
 use std::rt::Files;
 
-/// A folder of objects, which is made with the first of them. What is left out is told on standard error.
+/// A directory of objects, which is made with the first of them. What is left out is printed on standard error.
 #[derive(Drop)]
 pub struct FolderSink<R> {
     store: Store<R>,
@@ -43,7 +43,7 @@ impl<R: Files + Eprint> Sink<Outside> for FolderSink<R> {
         answer
     }
 
-    /// Where standard error can't be written, nothing is told.
+    /// If standard error can't be written, nothing is printed.
     fn leave_out(&mut self, alloc: Global, path: &[Name], why: LeftOut) -> Result<(), FilesFault> {
         let path = path_text(alloc, path)?;
         let _ = match why {

@@ -1,4 +1,4 @@
-//! What a closed overlay shows, as Git's objects in a folder.
+//! What a closed overlay shows, as Git's objects in a directory.
 ghost use Rattle.std.specs.Prelude.{◌≡◌, IsErr, IsOk};
 ghost use Rattle.std.specs.Process.{exit_status};
 ghost use Rattle.mountd.specs.Snapshots.{closed_name, snapshot_name, taken_status};
@@ -31,12 +31,12 @@ struct Work<F, K> {
     sink: K,
 }
 
-/// Why a snapshot wasn't taken, or not all changes were told.
+/// Why a snapshot wasn't taken, or not all changes were reported.
 #[derive(Clone, Copy)]
 pub enum TakeFault {
     /// The overlay isn't one that was closed on that tree.
     Closed(ClosedFault),
-    /// A file, an object or the folder failed.
+    /// A file, an object or the directory failed.
     Snapshot(SnapshotFault),
 }
 
@@ -88,7 +88,7 @@ fn take_with<F: Files<Outside>, K: Sink<Outside> + Drop>(
     run_opened::<Outside, _, _, _>(rt, work, object_source(rt, objects))
 }
 
-/// Does the work where its objects' repository could be opened.
+/// Does the work if its objects' repository could be opened.
 fn run_opened<W: World, F: Files<W>, K: Sink<W> + Drop, S: Source<W> + Drop>(
     rt: &HostRuntime,
     work: Work<F, K>,
@@ -149,9 +149,9 @@ fn print_id<R: Print>(rt: &R, alloc: Global, outcome: &Result<Id, TakeFault>) ->
     println!(rt; "{digits}")
 }
 
-/// Tells by which fault `what` wasn't done to its end, or couldn't be written, where there was one.
+/// Reports by which fault `what` wasn't done to its end, or couldn't be written, if there was one.
 ///
-/// Status 0; 3, where the overlay isn't one that was closed; 4, where a file, an object or the folder failed, or a line
+/// Status 0; 3, if the overlay isn't one that was closed; 4, if a file, an object or the directory failed, or a line
 /// can't be written.
 pub fn taken<R: Eprint, T: Drop>(
     rt: &R,
@@ -181,7 +181,7 @@ pub fn closed_name(fault: ClosedFault) -> &'static str
     }
 }
 
-/// The name of why there is no snapshot, or why not all changes were told.
+/// The name of why there is no snapshot, or why not all changes were reported.
 pub fn snapshot_name(fault: SnapshotFault) -> &'static str
     ensures { result.now ≡ snapshot_name fault }
 {

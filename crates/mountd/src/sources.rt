@@ -1,4 +1,5 @@
-//! Where the objects of a mount come from: a folder, a server of this machine, a Git repository, or that and a server.
+//! Where the objects of a mount come from: a directory, a server of this machine, a Git repository, or that and a
+//! server.
 ghost use Rattle.std.specs.Prelude.{◌≡◌, IfOk, length, string_bytes};
 ghost use Rattle.mountd.specs.Sources.{IsSourceOf};
 
@@ -54,7 +55,7 @@ impl Source<Outside> for ObjectSource {
     }
 }
 
-/// A source over a folder.
+/// A source over a directory.
 pub fn folder_source(rt: &HostRuntime, folder: String) -> FolderSource<HostRuntime>
     ensures { result ≡ record { path = string_bytes folder; failures = 0 } }
 {
@@ -111,8 +112,8 @@ fn copied(alloc: Global, objects: &Objects) -> Result<Objects, AllocError> {
     }
 }
 
-/// So many sources, each the one that these options name, with files or a connection of its own. `Memory` also where
-/// there is none for a folder's or a server's.
+/// This many sources, each the one that these options name, with files or a connection of its own. `Memory` also if
+/// there is none for a directory's or a server's.
 pub fn object_sources(
     rt: &HostRuntime,
     objects: &Objects,

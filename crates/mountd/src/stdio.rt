@@ -57,7 +57,7 @@ fn serve_files(rt: &HostRuntime, options: MountOptions, files: MountFiles) -> Ex
     run_opened::<Outside, _, _>(rt, base, history, &limits, files, source)
 }
 
-/// Serves a session on a mount over these files, where its objects' repository could be opened.
+/// Serves a session on a mount over these files, if its objects' repository could be opened.
 fn run_opened<W: World, F: Files<W>, S: Source<W> + Drop>(
     rt: &HostRuntime,
     base: Base,

@@ -11,7 +11,7 @@ use std::io;
 use std::process::ExitCode;
 use std::rt::Files;
 
-/// Removes the orphans of a closed overlay and what its interrupted stores left, and tells on standard output how much
+/// Removes the orphans of a closed overlay and what its interrupted stores left, and prints on standard output how much
 /// that was.
 pub fn tidy(rt: &HostRuntime, options: TidyOptions) -> ExitCode {
     match hold_existing(rt, rt.alloc(), options.overlay) {

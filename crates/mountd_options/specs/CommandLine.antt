@@ -178,8 +178,8 @@ pub record SaysLimits (command : MountCommand) (value : Text → Option Text) (l
   pub cache_bytes : SaysNumber CacheBytes (2 ^ 28) (value (number_name CacheBytes)) limits.cache_bytes
   pub cache_sizes : limits.cache_sizes ≡ 65536
 
--- where the objects are to come from: a folder or a server, and these values name one of them; or a repository, which they name
--- with a server or without one
+-- where the objects are to come from: a directory or a server, and these values name one of them; or a repository, which they
+-- name with a server or without one
 abbrev pub SaysObjects : (Text → Option Text) → Objects → Type 0
 SaysObjects value (place.Folder folder) =
     (value (codes "git") ≡ None) × (value (codes "objects") ≡ Some (string_bytes folder)) × (value (address_name Remote) ≡ None)
@@ -196,12 +196,12 @@ pub record NamesNotOne (value : Text → Option Text) : Type 0 where
   pub plain : value (codes "git") ≡ None
   pub alike : is_some (value (codes "objects")) ≡ is_some (value (address_name Remote))
 
--- .. they name a repository, and a folder of objects beside it
+-- .. they name a repository, and a directory of objects beside it
 pub record NamesBoth (value : Text → Option Text) : Type 0 where
   pub git : is_some (value (codes "git")) ≡ true
   pub objects : is_some (value (codes "objects")) ≡ true
 
--- whose objects are to be served: a folder's or a repository's, and these values name one of them
+-- whose objects are to be served: a directory's or a repository's, and these values name one of them
 abbrev pub SaysServed : (Text → Option Text) → Served → Type 0
 SaysServed value (of.Folder folder) =
     (value (codes "dir") ≡ Some (string_bytes folder)) × (value (codes "git") ≡ None)
@@ -297,7 +297,7 @@ pub record IsSnapshot (value : Text → Option Text) (options : SnapshotOptions)
   pub closed : IsOverlay value options.closed
   pub into : value (codes "into") ≡ Some (string_bytes options.into)
 
--- .. of which changes are to be told, and whether a mount runs over it
+-- .. of which changes are to be reported, and whether a mount runs over it
 pub record IsChanges (value : Text → Option Text) (options : ChangesOptions) : Type 0 where
   pub overlay : IsOverlay value options.overlay
   pub running : IsTrue options.is_running ↔ IsGiven value (codes "running")
@@ -307,7 +307,7 @@ pub record IsDematerialise (value : Text → Option Text) (options : Demateriali
   pub overlay : IsOverlay value options.overlay
   pub tree : value (codes "tree") ≡ Some (encode_lower options.tree.bytes)
 
--- the words ask which program this is: behind its name there is `--version` alone, which `clap` never sees
+-- the words ask which program this is: after its name there is `--version` alone, which `clap` never sees
 abbrev pub AsksVersion : List Text → Type 0
 AsksVersion words = (name : Text) × (words ≡ name ∷ codes "--version" ∷ [])
 
@@ -404,7 +404,7 @@ RefusesValues command value (error.Address option) = NamesMount value × Refuses
 RefusesValues command value (error.Number option) = NamesMount value × RefusesNumber value option
 RefusesValues command value error.Memory = ⊤
 
--- where the command is over a commit's tree, its root is an id, and it is named where the objects come from; where it serves objects, whose
+-- if the command is over a commit's tree, its root is an id, and it is named where the objects come from; if it serves objects, whose
 pub record NamesItsSource (words : List Text) : Type 0 where
   pub mount : (command : MountCommand) → named words ≡ Some (command_name command) → NamesMount (value_of words)
   pub served : named words ≡ Some objects.0 → NamesServed (value_of words)

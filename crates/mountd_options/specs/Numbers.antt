@@ -63,7 +63,7 @@ abbrev pub GivesNumber : NumberOption → Option Text → ℕ → Type 0
 GivesNumber option None n = ⊥
 GivesNumber option (Some text) n = NamesNumber option text n
 
--- the number that the option has: its value's, or the default where there is no value or one that stands for none
+-- the number that the option has: its value's, or the default if there is no value or one that stands for none
 abbrev pub SaysNumber : NumberOption → ℕ → Option Text → ℕ → Type 0
 SaysNumber option default None n = n ≡ default
 SaysNumber option default (Some text) n = NamesNumber option text n ⊎ (SaysNone option text × (n ≡ default))

@@ -28,11 +28,10 @@ impl AddressOption {
         }
     }
 
-    /// The address that the text says. Where a socket is wanted that is its path; else a text with a slash is a
-    /// socket's path, and one without a port's number.
+    /// The address that the text says. If a socket is wanted that is its path; else a text with a slash is a socket's
+    /// path, and one without a port's number.
     ///
-    /// None exactly where the text says no address, or one that the option doesn't take. The only error is want of
-    /// memory.
+    /// None exactly if the text says no address, or one that the option doesn't take. The only error is want of memory.
     pub fn read(self, alloc: Global, text: &str) -> Result<Option<Address>, AllocError>
         ensures { IfOk result (λ read. MatchOption read (IsNoAddress self text.now) (IsAddress self text.now)) }
     {

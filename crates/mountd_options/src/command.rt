@@ -42,25 +42,25 @@ use thiserror::Error;
 /// How many objects may be asked for and not yet there: as many as the most fetchers.
 const FLIGHTS: u32 = 16;
 
-/// How many entries the history holds, where it isn't said.
+/// How many entries the history holds, if it isn't said.
 const HISTORY: u64 = 1_000_000;
 
-/// How many objects the cache holds, where it isn't said.
+/// How many objects the cache holds, if it isn't said.
 const CACHE_ENTRIES: u64 = 1_024;
 
-/// How many bytes the cache's objects have together, where it isn't said.
+/// How many bytes the cache's objects have together, if it isn't said.
 const CACHE_BYTES: u64 = 1 << 28;
 
-/// How many connections a server of objects takes, where it isn't said.
+/// How many connections a server of objects takes, if it isn't said.
 const OBJECTS_SESSIONS: u64 = 2;
 
-/// How many connections a mount is served to, where it isn't said.
+/// How many connections a mount is served to, if it isn't said.
 const MOUNT_SESSIONS: u64 = 1;
 
-/// How many fetchers a served mount has, where it isn't said.
+/// How many fetchers a served mount has, if it isn't said.
 const FETCHERS: u64 = 2;
 
-/// How many threads serve a folder, where it isn't said.
+/// How many threads serve a folder, if it isn't said.
 const THREADS: u64 = 1;
 
 /// How many lengths of contents are kept.
@@ -69,11 +69,11 @@ const CACHE_SIZES: usize = 65_536;
 /// Where the objects of a mount come from.
 #[derive(Drop)]
 pub enum Objects {
-    /// The folder that they lie in.
+    /// The directory that they lie in.
     Folder(String),
     /// A server of this machine.
     Server(Address),
-    /// A Git repository: the folder that has it, or its `.git`.
+    /// A Git repository: the directory that has it, or its `.git`.
     Repository(String),
     /// A Git repository, and for what it lacks a server of this machine.
     RepositoryAndServer(String, Address),
@@ -82,9 +82,9 @@ pub enum Objects {
 /// Whose objects are served to other mounts.
 #[derive(Drop)]
 pub enum Served {
-    /// Those of the folder that they lie in.
+    /// Those of the directory that they lie in.
     Folder(String),
-    /// A Git repository's: the folder that has it, or its `.git`.
+    /// A Git repository's: the directory that has it, or its `.git`.
     Repository(String),
 }
 
@@ -99,7 +99,7 @@ pub enum MountCommand {
     Snapshot,
     /// The kernel, over its FUSE protocol.
     Fuse,
-    /// It tells what an overlay changed.
+    /// It prints what an overlay changed.
     Changes,
     /// It lets a closed overlay stand on another tree.
     Dematerialise,
@@ -170,9 +170,9 @@ pub struct MountOptions {
     pub root: Id,
     /// Where the objects come from.
     pub objects: Objects,
-    /// The folder that keeps the changes, where they are not to stay in memory alone.
+    /// The directory that keeps the changes, if they are not to stay in memory alone.
     pub overlay: Option<String>,
-    /// Whether a folder that wasn't closed is opened by what its files say.
+    /// Whether a directory that wasn't closed is opened by what its files say.
     pub rescan: bool,
     /// Whether the history is kept, up to its limit, or only counted.
     pub history: HistoryOption,
@@ -217,16 +217,16 @@ pub struct ObjectsOptions {
 /// What `mountd import` is asked to import.
 #[derive(Drop)]
 pub struct ImportOptions {
-    /// The folder whose files become objects.
+    /// The directory whose files become objects.
     pub from: String,
-    /// The folder that the objects come to lie in.
+    /// The directory that the objects come to lie in.
     pub objects: String,
 }
 
 /// What `mountd tidy` is asked to tidy.
 #[derive(Drop)]
 pub struct TidyOptions {
-    /// The folder of a closed overlay.
+    /// The directory of a closed overlay.
     pub overlay: String,
 }
 
@@ -262,7 +262,7 @@ pub enum OptionsError {
     /// This command is given no repository, and neither or both of what else objects may come from.
     #[error("mountd: {0} takes one of --objects and --remote")]
     Source(MountCommand),
-    /// This command is given a repository, and a folder of objects beside it.
+    /// This command is given a repository, and a directory of objects beside it.
     #[error("mountd: {0} takes one of --objects and --git")]
     Repository(MountCommand),
     /// `objects` is given neither or both of what it may serve.
@@ -354,7 +354,7 @@ fn asks_version<S: AsStr>(words: &[S]) -> bool
 
 /// The mount that the command is to open.
 ///
-/// Of several errors the root's is told, then that of where the objects come from, then a number's.
+/// Of several errors the root's is reported, then that of where the objects come from, then a number's.
 fn mount_options(
     alloc: Global,
     given: &ArgMatches,
@@ -397,7 +397,7 @@ pub(crate) fn objects_of(
     }
 }
 
-/// Where they come from where that begins with this repository.
+/// Where they come from if that begins with this repository.
 fn repository_of(
     alloc: Global,
     given: &ArgMatches,
@@ -424,7 +424,7 @@ fn repository_of(
     }
 }
 
-/// Where they come from where that is no repository.
+/// Where they come from if that is no repository.
 fn plain_objects_of(
     alloc: Global,
     given: &ArgMatches,
@@ -469,7 +469,7 @@ fn place_of(
     }
 }
 
-/// The address that the text says for the option, or the option where it says none that it takes.
+/// The address that the text says for the option, or the option if it says none that it takes.
 fn read_address(alloc: Global, text: &str, option: AddressOption) -> Result<Address, OptionsError>
     ensures ok { IfOk result (IsAddress option text.now) }
     ensures err { IfErr result (λ e. (e ≡ error.Memory) ⊎ ((e ≡ error.Address option) × IsNoAddress option text.now)) }
@@ -563,7 +563,7 @@ fn tidy_options(alloc: Global, given: &ArgMatches) -> Result<TidyOptions, AllocE
     Ok(TidyOptions { overlay })
 }
 
-/// The value of `--overlay`, where it is given.
+/// The value of `--overlay`, if it is given.
 fn overlay(alloc: Global, given: &ArgMatches) -> Result<Option<String>, AllocError>
     ensures { IfOk result (λ overlay.
         first_value (found_of given.now) (codes "overlay") ≡ option_map string_bytes overlay) }
@@ -644,9 +644,9 @@ fn passes(given: &ArgMatches, command: MountCommand) -> Result<u32, NumberOption
     }
 }
 
-/// The number that an option has: the one that is given, or its default where none is.
+/// The number that an option has: the one that is given, or its default if none is.
 ///
-/// The error names the option, where it doesn't take its value.
+/// The error names the option, if it doesn't take its value.
 fn number(given: &ArgMatches, option: NumberOption, default: u64) -> Result<u64, NumberOption>
     requires { (least_of option ≤ default) × (default ≤ most_of option) }
     ensures ok { IfOk result (SaysNumber option default (first_value (found_of given.now) (number_name option))) }
@@ -672,7 +672,7 @@ fn read_or(text: &str, option: NumberOption, default: u64) -> Result<u64, Number
     read(text, option)
 }
 
-/// The number that the text spells for the option, or the option where it is none that it takes.
+/// The number that the text spells for the option, or the option if it is none that it takes.
 fn read(text: &str, option: NumberOption) -> Result<u64, NumberOption>
     ensures ok { IfOk result (NamesNumber option text.now) }
     ensures range { IfOk result (λ n. (least_of option ≤ n) × (n ≤ most_of option)) }

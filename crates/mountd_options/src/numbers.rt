@@ -93,7 +93,7 @@ impl NumberOption {
 
     /// The number that the text spells, in decimal digits with neither a sign nor a leading zero.
     ///
-    /// None exactly where the text spells no number, or one that the option doesn't take.
+    /// None exactly if the text spells no number, or one that the option doesn't take.
     pub fn read(self, text: &str) -> Option<u64>
         ensures { MatchOption result (IsNoNumber self text.now) (NamesNumber self text.now) }
     {

@@ -32,7 +32,7 @@ pub struct OverlayOptions {
 pub struct SnapshotOptions {
     /// The overlay, which is a closed one.
     pub closed: OverlayOptions,
-    /// The folder that the objects come to lie in.
+    /// The directory that the objects come to lie in.
     pub into: String,
 }
 
@@ -56,7 +56,7 @@ pub struct DematerialiseOptions {
 
 /// The overlay that the command is for.
 ///
-/// Of several errors the root's is told, and then that of where the objects come from.
+/// Of several errors the root's is reported, and then that of where the objects come from.
 pub(crate) fn overlay_options(
     alloc: Global,
     given: &ArgMatches,
@@ -109,7 +109,7 @@ pub(crate) fn changes_options(
     })
 }
 
-/// Of several errors the overlay's is told, and then that of the tree.
+/// Of several errors the overlay's is reported, and then that of the tree.
 pub(crate) fn dematerialise_options(
     alloc: Global,
     given: &ArgMatches,

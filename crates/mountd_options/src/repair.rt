@@ -15,7 +15,7 @@ use std::alloc::Global;
 pub struct RepairOptions {
     /// The tree of the commit that the overlay stands on.
     pub root: Id,
-    /// The folder of the overlay.
+    /// The directory of the overlay.
     pub overlay: String,
 }
 

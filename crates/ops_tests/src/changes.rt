@@ -10,7 +10,7 @@ const D_F: Names = &[b"d", b"f"];
 
 const BAK_TEST: Names = &[b"bak", b"test.txt"];
 
-/// A write behind the end leaves zeros between. The file is stored in its directory's stead, and then that.
+/// A write after the end leaves zeros between. The file is stored in its directory's stead, and then that.
 const WRITTEN: Row = Row {
     root: ONE_FILE,
     objects: 8,
@@ -210,7 +210,7 @@ const GOES: Row = Row {
     files: &[(1, 68)],
 };
 
-/// The files can't be stored: then nothing has changed, and once they can, all goes on.
+/// The files can't be stored: then nothing has changed, and once they can, all continues.
 const FAILED: Row = Row {
     root: ONE_FILE,
     objects: 8,

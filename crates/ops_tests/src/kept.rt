@@ -59,7 +59,7 @@ const WRITTEN_IN_PIECES: Row = Row {
     files: &[(1, 119), (4, 64)],
 };
 
-/// A content stays where its directory goes: only that is read again.
+/// A content stays if its directory goes: only that is read again.
 const UNLOADED_BETWEEN: Row = Row {
     root: ONE_FILE,
     objects: 8,

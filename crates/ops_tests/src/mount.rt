@@ -19,7 +19,7 @@ use test_samples::{
 /// The most attempts of one request: each needs another object, or one that was lost since.
 pub(crate) const TRIES: u32 = 1_000;
 
-/// The longest content that stays in memory, where a test doesn't say otherwise.
+/// The longest content that stays in memory, if a test doesn't say otherwise.
 pub(crate) const KEPT: u64 = 1 << 20;
 
 /// The objects that an attempt may need.
@@ -56,12 +56,12 @@ fn object_of(rt: &impl Abort, key: Key) -> Sample {
 }
 
 impl Mount {
-    /// A mount of that tree, over no files, whose cache holds so many objects: 1 to 8. All calls pass.
+    /// A mount of that tree, over no files, whose cache holds this many objects: 1 to 8. All calls pass.
     pub(crate) fn open(rt: &impl Abort, alloc: Global, root: Sample, objects: usize) -> Mount {
         Mount::keeping(rt, alloc, root, objects, KEPT)
     }
 
-    /// The same, where an own content of at most so many bytes stays in memory.
+    /// The same, if an own content of at most this many bytes stays in memory.
     pub(crate) fn keeping(
         rt: &impl Abort,
         alloc: Global,
@@ -97,7 +97,7 @@ impl Mount {
         assert!(rt; self.cache.put(key, object).is_ok());
     }
 
-    /// One attempt; what it needs is put into the cache then. None where it needs something.
+    /// One attempt; what it needs is put into the cache then. None if it needs something.
     pub(crate) fn turn(&mut self, rt: &impl Abort, request: &Request) -> Option<Reply> {
         match self.attempt(request) {
             Attempt::Finished(reply) => Some(reply),

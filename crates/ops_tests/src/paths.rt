@@ -1,4 +1,4 @@
-//! Names and paths, of bytes that are some; a test ends where they are none.
+//! Names and paths, of bytes that are some; a test ends if they are none.
 
 use eden_model::{Name, Path};
 use std::alloc::Global;

@@ -91,7 +91,7 @@ const NUMBERED: Row = Row {
     files: &[(1, 80), (3, 64)],
 };
 
-/// What stands in a directory keeps its number where that moves, also once it is unloaded.
+/// What stands in a directory keeps its number if that moves, also once it is unloaded.
 const NUMBERED_BELOW: Row = Row {
     root: TWO_FILES,
     objects: 8,
@@ -286,7 +286,7 @@ fn renames_are_answered_and_leave_these_files(rt: HostRuntime) {
     check_all(&rt, rt.alloc(), ROWS);
 }
 
-/// The path of a first name, and then so many times `a`.
+/// The path of a first name, and then this many times `a`.
 fn deep(rt: &impl Abort, alloc: Global, first: &'static [u8], count: usize) -> Path {
     let mut parts = Vec::new(alloc);
     parts.push(first).expect(rt, "memory");
@@ -344,7 +344,7 @@ fn number_inside(rt: &impl Abort, mount: &Mount, at: &Path) -> u64 {
 }
 
 /// The root's three entries have the numbers from 2 on, and the one of the directory that is loaded next has 5, also
-/// where that goes.
+/// if that goes.
 #[test]
 fn what_goes_along_keeps_its_numbers(rt: HostRuntime) {
     let alloc = rt.alloc();

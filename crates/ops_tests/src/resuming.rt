@@ -1,4 +1,4 @@
-//! Attempts that go on where an earlier one waited, and how many names each compares.
+//! Attempts that continue where an earlier one waited, and how many names each compares.
 
 ghost use Rattle.eden_ops.specs.Trails.{MayGoOn};
 
@@ -125,7 +125,7 @@ fn wait_below(
     wait(rt, mount, request, place, compared, ONE_FILE);
 }
 
-/// One attempt of another request. Where this one waits it may go on still.
+/// One attempt of another request. Where this one waits it may continue still.
 fn beside(mount: &mut Mount, other: &Request, _request: &Request, _place: &Place) -> Attempt
     requires { MayGoOn _request.now mount.old.table _place.now }
     ensures { MayGoOn _request.now mount.new.table _place.now }

@@ -67,16 +67,16 @@ pub(crate) enum Step {
     Ask(Names, Ask, Want),
     /// This is asked about the path, and needs that object, which is cached then.
     Need(Names, Ask, Sample),
-    /// Of all directories so many can be unloaded.
+    /// Of all directories this many can be unloaded.
     Unload(u64),
-    /// So many calls on the files still pass.
+    /// This many calls on the files still pass.
     Pass(u64),
 }
 
 /// Files by their numbers, each with its size in bytes.
 pub(crate) type Sizes = &'static [(u64, usize)];
 
-/// Steps on a mount of that tree whose cache holds so many objects, and then its files.
+/// Steps on a mount of that tree whose cache holds this many objects, and then its files.
 #[derive(Clone, Copy)]
 pub(crate) struct Row {
     pub(crate) root: Sample,
@@ -237,7 +237,7 @@ fn leaves(rt: &impl Abort, mount: Mount, want: Sizes) -> bool {
     have_sizes(alloc, &mut files, numbers.as_slice(), want)
 }
 
-/// Takes the steps of a row, where contents of at most so many bytes stay in memory, and looks at its files.
+/// Takes the steps of a row, if contents of at most this many bytes stay in memory, and looks at its files.
 pub(crate) fn check(rt: &impl Abort, alloc: Global, row: Row, kept: u64) {
     let mut mount = Mount::keeping(rt, alloc, row.root, row.objects, kept);
     for (count, step) in row.steps.iter().enumerate() {

@@ -60,7 +60,7 @@ fn unload(rt: &impl Abort, mount: &mut Mount, word: u32) {
     mount.table.unload(mount.alloc, at.as_slice(), age);
 }
 
-/// Now and then directories are unloaded, or the clock goes on.
+/// Now and then directories are unloaded, or the clock advances.
 fn disturb(rt: &impl Abort, mount: &mut Mount, seed: &mut u64) {
     let word = random(seed);
     match word % 8 {
@@ -104,7 +104,7 @@ fn count(tally: &mut Tally, reply: &Reply) {
     }
 }
 
-/// Where the mount replies no fault, the oracle allows it; and it replies one only where the device has stopped.
+/// If the mount replies no fault, the oracle allows it; and it replies one only if the device has stopped.
 fn is_right(rt: &impl Abort, pair: &mut Pair, request: &Request, reply: &Reply) -> bool {
     match reply {
         Reply::Fault(_) => pair.mount.calls.get() == 0,
@@ -123,7 +123,7 @@ fn step(rt: &impl Abort, pair: &mut Pair, seed: &mut u64, tally: &mut Tally) {
     );
 }
 
-/// So many requests on the commit, with room for so many objects.
+/// This many requests on the commit, with room for this many objects.
 fn run(
     rt: &impl Abort,
     alloc: Global,
@@ -144,7 +144,7 @@ fn run(
     }
 }
 
-/// So many times that, with room for one object or two.
+/// This many times that, with room for one object or two.
 fn run_all(
     rt: &impl Abort,
     alloc: Global,

@@ -44,7 +44,7 @@ pub(crate) fn whole(rt: &impl Abort, alloc: Global) -> WholeTree {
     tree.expect(rt, "a tree")
 }
 
-/// Whether the oracle allows a reply, by which it goes on.
+/// Whether the oracle allows a reply, by which it continues.
 pub(crate) fn allows(
     rt: &impl Abort,
     alloc: Global,

@@ -38,7 +38,7 @@ pub(crate) fn path(rt: &impl Abort, alloc: Global, text: &str) -> Path {
     Path::new(names).expect(rt, "a path")
 }
 
-/// A row as the tests write it: its path, its kind, and its content; none where that is lost or unlisted.
+/// A row as the tests write it: its path, its kind, and its content; none if that is lost or unlisted.
 pub(crate) type Row = (&'static str, Kind, Option<&'static str>);
 
 fn node(rt: &impl Abort, alloc: Global, kind: Kind, text: Option<&str>) -> Node {
@@ -71,9 +71,9 @@ enum Ask {
     Stat,
     Read(u64, u64),
     ReadLink,
-    /// So many entries from the first on.
+    /// This many entries from the first on.
     List(u64),
-    /// So many entries behind that name.
+    /// This many entries after that name.
     ListAfter(&'static str, u64),
     Write(u64, &'static str),
     /// 65,537 bytes `a`, one more than a write may have.
@@ -131,7 +131,7 @@ enum Say {
     Stat(Kind, u64, u64),
     Data(&'static str),
     Count(u64),
-    /// All the entries behind the name.
+    /// All the entries after the name.
     All(&'static [Item]),
     /// The first of them, and others come after these.
     First(&'static [Item]),
@@ -516,12 +516,12 @@ fn what_is_lost_has_no_reply(rt: HostRuntime) {
     answers(&rt, rt.alloc(), LOST_ROWS, LOST);
 }
 
-/// The path of so many names `a`.
+/// The path of this many names `a`.
 fn deep(rt: &impl Abort, alloc: Global, count: usize) -> String {
     "/a".repeat(alloc, count).expect(rt, "memory")
 }
 
-/// Makes directories of so many levels, each in the one before.
+/// Makes directories of this many levels, each in the one before.
 fn deepen(rt: &impl Abort, alloc: Global, tree: &mut WholeTree, levels: usize) {
     for count in 1..=levels {
         let at = deep(rt, alloc, count);
@@ -529,7 +529,7 @@ fn deepen(rt: &impl Abort, alloc: Global, tree: &mut WholeTree, levels: usize) {
     }
 }
 
-/// Whether a directory stands so many levels deep.
+/// Whether a directory stands this many levels deep.
 fn is_deep(rt: &impl Abort, alloc: Global, tree: &mut WholeTree, levels: usize) -> bool {
     let at = deep(rt, alloc, levels);
     answers_so(

@@ -59,7 +59,7 @@ pub(crate) fn is_heard(heard: &Result<Vec<u8>, Refusal>, want: Result<&[u8], Ref
     }
 }
 
-// Whether that is heard, and so many bytes are left unread.
+// Whether that is heard, and this many bytes are left unread.
 fn hears(alloc: Global, said: &[u8], want: Result<&[u8], Refusal>, left: usize) -> bool {
     let mut reader = said;
     is_heard(&read_answer(alloc, &mut reader), want) && reader.len() == left
@@ -72,7 +72,7 @@ fn answers_are_heard(rt: HostRuntime) {
     }
 }
 
-// What the text of a number is worth, where it has no leading zeros.
+// What the text of a number is worth, if it has no leading zeros.
 fn number(digits: &[u8]) -> Option<usize> {
     let text = str::from_utf8(digits).ok()?;
     let number = text.parse::<usize>().ok()?;

@@ -90,7 +90,7 @@ impl Net for Lines {
     }
 }
 
-// What the server says on one connection after another; `None` where it isn't reached, as behind the last.
+// What the server says on one connection after another; `None` if it isn't reached, as after the last.
 const SAID: &[Option<&[u8]>] = &[
     None,
     Some(b"object 3\nabcmissing\nobject 0\nfault\nobject 3\nabc"),
@@ -126,7 +126,7 @@ fn is_answer(answer: &Result<Vec<u8>, Cause>, want: &Result<&[u8], Cause>) -> bo
     }
 }
 
-// Whether that is answered, and there are so many failures then.
+// Whether that is answered, and there are this many failures then.
 fn answers(
     alloc: Global,
     source: &mut impl Source<Outside>,

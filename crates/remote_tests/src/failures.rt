@@ -6,7 +6,7 @@ use std::alloc::Global;
 use std::io::{self, ErrorKind, Read, Write};
 use std::process::Abort;
 
-// Gives a byte a call. Of so many calls every second one is interrupted, and the last passes.
+// Gives a byte a call. Of this many calls every second one is interrupted, and the last passes.
 #[derive(Drop)]
 struct Trickle<'a> {
     left: &'a [u8],
@@ -59,7 +59,7 @@ struct Outcome {
     got: Vec<u8>,
 }
 
-// Two lines are answered, with so many calls of each kind.
+// Two lines are answered, with this many calls of each kind.
 fn served(rt: &(impl AllocGlobal + Abort), reads: usize, writes: usize) -> Outcome {
     let said = [ASKS, ASKS].concat(rt.alloc()).expect(rt, "memory");
     let mut reader = Trickle {
@@ -75,7 +75,7 @@ fn served(rt: &(impl AllocGlobal + Abort), reads: usize, writes: usize) -> Outco
     Outcome { ended, got }
 }
 
-// Whether so many reads end it after so many whole answers.
+// Whether this many reads end it after this many whole answers.
 fn ends_after(rt: &(impl AllocGlobal + Abort), reads: usize, answers: usize) -> bool {
     let Outcome { ended, got } = served(rt, reads, 1_000);
     ended == Err(AnswerFault::Read)
@@ -95,7 +95,7 @@ fn failed_reads_end_it_after_the_answers(rt: HostRuntime) {
     assert!(rt; is_served(&rt, 181));
 }
 
-// Whether so many writes end it in an answer.
+// Whether this many writes end it in an answer.
 fn ends_in(rt: &(impl AllocGlobal + Abort), writes: usize, whole: &[u8]) -> bool {
     let Outcome { ended, got } = served(rt, 1_000, writes);
     ended == Err(AnswerFault::Write) && whole.starts_with(&got) && got.len() < whole.len()
@@ -114,7 +114,7 @@ fn failed_writes_end_it_in_an_answer(rt: HostRuntime) {
     assert!(rt; gives(&rt, 39, &whole));
 }
 
-// Whether an answer isn't heard after so many reads.
+// Whether an answer isn't heard after this many reads.
 fn fails_after(alloc: Global, reads: usize) -> bool {
     let mut reader = Trickle {
         left: ANSWER,

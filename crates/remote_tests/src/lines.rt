@@ -83,7 +83,7 @@ fn lines_are_answered_in_order(rt: HostRuntime) {
     );
 }
 
-// What is answered where an object has these framed bytes.
+// What is answered if an object has these framed bytes.
 fn answer_of(rt: &(impl AllocGlobal + Abort), framed: &[u8]) -> Vec<u8> {
     let head = format!(in rt.alloc(); "object {}\n", framed.len()).expect(rt, "memory");
     [head.as_bytes(), framed]
@@ -110,7 +110,7 @@ fn long_objects_are_answered(rt: HostRuntime) {
     }
 }
 
-// A folder of objects in which a file has the name of a directory.
+// A directory of objects in which a file has the name of a directory.
 fn faulty_folder(rt: &HostRuntime) -> io::Result<PathBuf> {
     let folder = empty_folder(rt, "remote")?;
     fs::write(rt, folder.join(rt.alloc(), "83")?, b"")?;

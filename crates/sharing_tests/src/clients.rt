@@ -1,5 +1,5 @@
 //! Clients in memory: each says its lines one after another, and notes when a line was handed out and when the last
-//! byte of its reply was written. All go on about as fast as each other.
+//! byte of its reply was written. All continue about as fast as each other.
 
 use eden_host::Accepts;
 use std::alloc::Global;
@@ -7,7 +7,7 @@ use std::io::{self, ErrorKind, Read, Write};
 use std::sync::atomic::{AtomicU64, Ordering};
 use std::sync::{Condvar, Mutex, Wait};
 
-/// A line isn't handed out before all but so many of those in front of it were answered.
+/// A line isn't handed out before all but this many of those in front of it were answered.
 const AHEAD: u64 = 24;
 
 /// A line, and how many lines of all clients are in front of it.

@@ -8,7 +8,7 @@ use std::sync::{Mutex, Wait};
 use test_random::Commit;
 use test_samples::random;
 
-/// One fetch of so many fails.
+/// One fetch of this many fails.
 const ONE_IN: u32 = 10;
 
 /// A fetch that failed, and when it did.
@@ -39,7 +39,7 @@ pub(crate) fn is_flaw(commit: &Commit, id: Id, cause: Cause) -> bool {
 }
 
 impl<R: Wait> Flaky<'_, R> {
-    /// Notes that a fetch fails. False where there is no memory for that.
+    /// Notes that a fetch fails. False if there is no memory for that.
     fn note(&self, id: Id) -> bool {
         let at = self.pace.now();
         let mut failed = self.failed.lock(self.rt);

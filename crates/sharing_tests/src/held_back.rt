@@ -1,5 +1,5 @@
-//! A fetch that ends only once another client's request was answered. It would never end where the mount's lock is held
-//! while a source is asked, nor where one fetcher does all fetches.
+//! A fetch that ends only once another client's request was answered. It would never end if the mount's lock is held
+//! while a source is asked, nor if one fetcher does all fetches.
 
 ghost use Rattle.std.specs.Prelude.{◌≡◌, length};
 ghost use Rattle.eden_shared.specs.Lanes.{names_of};

@@ -4,7 +4,7 @@ use std::process::Abort;
 use std::thread;
 use std::time::{Clock, Duration};
 
-/// How many seconds a row may take, also where the machine has other work.
+/// How many seconds a row may take, also if the machine has other work.
 const SECONDS: u64 = 30;
 
 /// Ends the program after that time, in a thread that nobody joins: a row that is done ends it before.

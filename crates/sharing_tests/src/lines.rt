@@ -103,7 +103,7 @@ fn path(request: &Request) -> &Path {
     }
 }
 
-/// What stands behind the path.
+/// What stands after the path.
 fn put_rest(rt: &impl Abort, line: &mut Line, request: &Request) {
     match request {
         Request::Read(_, offset, length) => {

@@ -42,7 +42,7 @@ pub(crate) struct Size {
     pub(crate) objects: usize,
 }
 
-/// A cache of so many objects.
+/// A cache of this many objects.
 fn cache(rt: &impl Abort, alloc: Global, objects: usize) -> ObjectCache<Global>
     ensures objects { result.objects ≡ [] }
     ensures sizes { result.sizes ≡ [] }

@@ -100,7 +100,7 @@ fn is_entry(entry: Option<&Entry>, call: Call) -> bool {
     }
 }
 
-/// The pass calls, and its floor is behind its entry then.
+/// The pass calls, and its floor is above its entry then.
 fn ask<T: Attempts<Outside> + Drop, J: Naming, R: Wait + Abort>(
     rt: &R,
     alloc: Global,
@@ -132,7 +132,7 @@ fn tell<T: Attempts<Outside> + Drop, J: Naming, R: Wait + Abort>(
     assert!(rt; first.floor() == 2);
 }
 
-/// The root is let go, and nobody is served any more.
+/// The root is unloaded, and nobody is served any more.
 fn stop<T: Attempts<Outside> + Drop, J: Naming, R: Wait + Abort>(
     rt: &R,
     alloc: Global,

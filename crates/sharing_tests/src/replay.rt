@@ -102,7 +102,7 @@ fn had_failed(failed: &[Failure], id: Id, told: u64) -> bool {
         .any(|failure| failure.id == id && failure.at < told)
 }
 
-/// What a replay goes on with.
+/// What a replay continues with.
 #[derive(Drop)]
 struct Replay {
     alloc: Global,
@@ -136,7 +136,7 @@ impl Replay {
         }
     }
 
-    /// A reply is the oracle's, which goes on by it.
+    /// A reply is the oracle's, which continues by it.
     fn reply(&mut self, rt: &impl Abort, entry: &Entry) {
         let is_replayed = replays(self.alloc, &mut self.tree, entry);
         assert!(rt; is_replayed.expect(rt, "memory"), "{entry:?}");

@@ -83,7 +83,7 @@ fn play<R: Threads + Wait + Abort + Sync>(
     check(rt, alloc, round, mount.history(), tally)
 }
 
-/// Each kind of answer was met often enough in so many rounds.
+/// Each kind of answer was met often enough in this many rounds.
 fn check_tally(rt: &impl Abort, rounds: u32, tally: &Tally) {
     let rounds = u64::from(rounds);
     assert_eq!(rt; u64::from(tally.entries), rounds * u64::from(REQUESTS));

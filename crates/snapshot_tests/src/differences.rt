@@ -102,7 +102,7 @@ fn is_text(path: &[Name], text: &[u8]) -> bool {
     rest.is_empty()
 }
 
-// What stands behind two texts.
+// What stands after two texts.
 fn behind<'a>(text: &'a [u8], first: &[u8], second: &[u8]) -> Option<&'a [u8]> {
     text.strip_prefix(first)?.strip_prefix(second)
 }
@@ -190,7 +190,7 @@ fn answer(
     )
 }
 
-// Over these files that is answered, and the first so many of the changes are told, where there is so much room.
+// Over these files that is answered, and the first this many of the changes are told, if there is so much room.
 fn check(
     rt: &(impl AllocGlobal + Abort),
     files: MemoryFiles<Outside>,

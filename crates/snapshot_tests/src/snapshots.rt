@@ -38,7 +38,7 @@ const ROOT: &[&[u8]] = &[
     b"\x03\x02\0\0\0\0\0\0\0\x08\x03sub",
 ];
 
-// The directories that are left out where no submodule is known.
+// The directories that are left out if no submodule is known.
 const LEFT_OUT: &[(&[u8], LeftOut)] = &[(b"e", LeftOut::Empty), (b"sub", LeftOut::Submodule)];
 
 // Each blob and tree that is the mount's own, in the order in which they are handed in.
@@ -90,7 +90,7 @@ impl Submodules<Outside> for NoTrees {
     }
 }
 
-// These parts, one behind another.
+// These parts, one after another.
 pub(crate) fn joined(rt: &(impl AllocGlobal + Abort), head: &[u8], parts: &[&[u8]]) -> Vec<u8> {
     let mut bytes = Vec::from_slice(rt.alloc(), head).expect(rt, "memory");
     for part in parts {
@@ -99,7 +99,7 @@ pub(crate) fn joined(rt: &(impl AllocGlobal + Abort), head: &[u8], parts: &[&[u8
     bytes
 }
 
-// The file of that number, of a header and these parts behind it.
+// The file of that number, of a header and these parts after it.
 pub(crate) fn put(
     rt: &(impl AllocGlobal + Abort),
     files: &mut MemoryFiles<Outside>,

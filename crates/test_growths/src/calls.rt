@@ -22,7 +22,7 @@ fn started(outcome: &Result<(), StartFault>) -> &'static str {
     }
 }
 
-/// The pass starts the line's request. False where it is none.
+/// The pass starts the line's request. False if it is none.
 pub fn start(stage: &mut Stage, mount: &mut Mounted, pass: u32, line: &[u8]) -> bool {
     let Some(request) = request_in(stage.alloc, line) else {
         return false;
@@ -106,7 +106,7 @@ fn serve_all(stage: &mut Stage, mount: &mut Mounted) {
     }
 }
 
-/// The passes take turns until nothing is pending. False where that doesn't come.
+/// The passes take turns until nothing is pending. False if that doesn't come.
 pub fn go(stage: &mut Stage, mount: &mut Mounted) -> bool {
     for _ in 0..TURNS {
         let first = turn(stage, mount, 1);
@@ -124,7 +124,7 @@ pub fn root(alloc: Global) -> Option<Path> {
     Path::new(Vec::new(alloc)).ok()
 }
 
-/// Every directory may go. False where there is no root.
+/// Every directory may go. False if there is no root.
 pub fn unload(stage: &mut Stage, mount: &mut Mounted) -> bool {
     let Some(root) = root(stage.alloc) else {
         return false;
@@ -159,7 +159,7 @@ fn end_outcome(stage: &mut Stage, outcome: &Outcome) {
     }
 }
 
-/// The line's request is started and has a turn, as events. False where it is none.
+/// The line's request is started and has a turn, as events. False if it is none.
 pub fn run(stage: &mut Stage, mount: &mut Mounted, line: &[u8]) -> bool {
     let Some(events) = events(stage.alloc, line) else {
         return false;

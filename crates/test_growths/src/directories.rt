@@ -13,7 +13,7 @@ use std::slice::from_ref;
 /// The names of the entries, one more than the directory's first block has room for.
 const NAMES: [u8; 5] = *b"badce";
 
-/// The name of one letter. None where memory is refused twice.
+/// The name of one letter. None if memory is refused twice.
 fn name(alloc: Global, letter: u8) -> Option<Name> {
     let bytes = match Vec::from_elem(alloc, letter, 1) {
         Ok(bytes) => bytes,
@@ -32,7 +32,7 @@ fn entry(number: u64) -> Entry<Global> {
     }
 }
 
-/// Tries to insert an entry, which comes back where it finds no memory.
+/// Tries to insert an entry, which comes back if it finds no memory.
 fn insert(
     stage: &mut Stage,
     dir: &mut Dir<Global>,
@@ -45,7 +45,7 @@ fn insert(
     inserted
 }
 
-/// Inserts an entry under that letter. False where that fails twice.
+/// Inserts an entry under that letter. False if that fails twice.
 fn add(stage: &mut Stage, dir: &mut Dir<Global>, letter: u8) -> bool {
     let Some(name) = name(stage.alloc, letter) else {
         return false;
@@ -56,7 +56,7 @@ fn add(stage: &mut Stage, dir: &mut Dir<Global>, letter: u8) -> bool {
     }
 }
 
-/// Inserts all entries. False where one fails twice.
+/// Inserts all entries. False if one fails twice.
 fn add_all(stage: &mut Stage, dir: &mut Dir<Global>) -> bool {
     for letter in NAMES {
         if !add(stage, dir, letter) {
@@ -66,7 +66,7 @@ fn add_all(stage: &mut Stage, dir: &mut Dir<Global>) -> bool {
     true
 }
 
-/// A directory that is to be loaded below. None where memory is refused twice.
+/// A directory that is to be loaded below. None if memory is refused twice.
 fn child(alloc: Global) -> Option<Box<Dir<Global>>> {
     match Box::new(alloc, Dir::new(alloc, 1)) {
         Ok(child) => Some(child),
@@ -107,7 +107,7 @@ fn may_hold(dir: &Dir<Global>, name: &Name) -> bool
     }
 }
 
-/// Stamps the directory that is loaded under the name, and marks it. False where none is loaded.
+/// Stamps the directory that is loaded under the name, and marks it. False if none is loaded.
 fn changes(dir: &mut Dir<Global>, name: &Name) -> bool {
     match dir.get_mut(name) {
         None => false,
@@ -195,7 +195,7 @@ fn is_directory(dir: &mut Dir<Global>, name: &Name, child: Box<Dir<Global>>) -> 
     is_held && finds(dir, name) && replaces(dir, name) && takes_out(dir, name)
 }
 
-/// Makes all calls of a directory with entries but insertions. False where memory is refused twice.
+/// Makes all calls of a directory with entries but insertions. False if memory is refused twice.
 fn use_all(stage: &mut Stage, dir: &mut Dir<Global>) -> bool {
     let Some(name) = name(stage.alloc, b'a') else {
         return false;
@@ -209,7 +209,7 @@ fn use_all(stage: &mut Stage, dir: &mut Dir<Global>) -> bool {
     true
 }
 
-/// Fills a directory, and makes all other calls of it. False where memory is refused twice.
+/// Fills a directory, and makes all other calls of it. False if memory is refused twice.
 pub fn use_directory(stage: &mut Stage) -> bool {
     let mut dir = Dir::new(stage.alloc, 0);
     add_all(stage, &mut dir) && use_all(stage, &mut dir)

@@ -38,7 +38,7 @@ fn room_once(stage: &mut Stage, config: &Config) -> Option<Room<Global>>
     }
 }
 
-/// Room for a mount of so many passes. None where memory is refused twice.
+/// Room for a mount of this many passes. None if memory is refused twice.
 pub fn room(stage: &mut Stage, passes: u32) -> Option<Room<Global>>
     ensures { IfSome result (λ r. r.queue.passes ≡ passes) }
 {
@@ -67,7 +67,7 @@ fn cache_once(stage: &mut Stage) -> Option<ObjectCache<Global>>
     }
 }
 
-/// A cache of two objects. None where memory is refused twice.
+/// A cache of two objects. None if memory is refused twice.
 pub fn cache(stage: &mut Stage) -> Option<ObjectCache<Global>>
     ensures objects { IfSome result (λ c. c.objects ≡ []) }
     ensures sizes { IfSome result (λ c. c.sizes ≡ []) }
@@ -96,7 +96,7 @@ fn open_once(stage: &mut Stage, files: Stored, root: Id, opening: Opening) -> Re
     }
 }
 
-/// Opens the files. None where that fails twice.
+/// Opens the files. None if that fails twice.
 pub fn open(stage: &mut Stage, files: Stored, root: Id, opening: Opening) -> Option<Tree> {
     match open_once(stage, files, root, opening) {
         Ok(tree) => Some(tree),
@@ -118,7 +118,7 @@ fn close_once(stage: &mut Stage, tree: Tree) -> Result<Stored, Tree> {
     }
 }
 
-/// Closes the tree. None where that fails twice.
+/// Closes the tree. None if that fails twice.
 pub fn close(stage: &mut Stage, tree: Tree) -> Option<Stored> {
     match close_once(stage, tree) {
         Ok(files) => Some(files),
@@ -133,7 +133,7 @@ fn abandon(stage: &mut Stage, tree: Tree) -> Stored {
     files
 }
 
-/// One step within a life. False where it is none.
+/// One step within a life. False if it is none.
 fn step(stage: &mut Stage, mount: &mut Mounted, line: &[u8]) -> bool {
     match line {
         [b'1', b' ', request @ ..] => start(stage, mount, 1, request),
@@ -145,7 +145,7 @@ fn step(stage: &mut Stage, mount: &mut Mounted, line: &[u8]) -> bool {
     }
 }
 
-/// Goes through the steps until the life ends: whether it is to be closed. None where a line is no step.
+/// Goes through the steps until the life ends: whether it is to be closed. None if a line is no step.
 fn steps(stage: &mut Stage, script: &mut Script, mount: &mut Mounted) -> Option<bool> {
     for _ in 0..u64::MAX {
         match script.next_line()? {
@@ -161,14 +161,14 @@ fn steps(stage: &mut Stage, script: &mut Script, mount: &mut Mounted) -> Option<
     None
 }
 
-/// A mount over these files. None where memory is refused twice.
+/// A mount over these files. None if memory is refused twice.
 fn mount(stage: &mut Stage, files: Stored, root: Id, opening: Opening) -> Option<Mounted> {
     let room = room(stage, 2)?;
     let tree = open(stage, files, root, opening)?;
     Some(Mount::new(room, tree, Kept::new(stage.alloc, HISTORY)))
 }
 
-/// A life over these files, which it leaves. None where a line is no step, or where something fails twice.
+/// A life over these files, which it leaves. None if a line is no step, or if something fails twice.
 pub fn live(
     stage: &mut Stage,
     script: &mut Script,

@@ -39,7 +39,7 @@ use std::process::ExitCode;
 use std::sync::Wait;
 use std::thread::Threads;
 
-/// Keeps the framed bytes too. False where memory is refused twice.
+/// Keeps the framed bytes too. False if memory is refused twice.
 fn push(objects: &mut Vec<Vec<u8>>, framed: Vec<u8>) -> bool {
     if objects.reserve(1).is_err() && objects.reserve(1).is_err() {
         return false;
@@ -47,7 +47,7 @@ fn push(objects: &mut Vec<Vec<u8>>, framed: Vec<u8>) -> bool {
     objects.push(framed).is_ok()
 }
 
-/// The object of that text is there to be fetched. False where it is no text of bytes.
+/// The object of that text is there to be fetched. False if it is no text of bytes.
 fn keep_object(stage: &mut Stage, objects: &mut Vec<Vec<u8>>, text: &[u8]) -> bool {
     let Some(copy) = stage.bytes(text) else {
         return false;
@@ -61,7 +61,7 @@ fn keep_object(stage: &mut Stage, objects: &mut Vec<Vec<u8>>, text: &[u8]) -> bo
     }
 }
 
-/// A step that needs no files. False where it is none, or where something fails twice.
+/// A step that needs no files. False if it is none, or if something fails twice.
 fn prepare(stage: &mut Stage, objects: &mut Vec<Vec<u8>>, line: &[u8]) -> bool {
     match line.strip_prefix(b"object ") {
         Some(text) => keep_object(stage, objects, text),
@@ -69,7 +69,7 @@ fn prepare(stage: &mut Stage, objects: &mut Vec<Vec<u8>>, line: &[u8]) -> bool {
     }
 }
 
-/// One step between two lives: the files after it. None where it is no step.
+/// One step between two lives: the files after it. None if it is no step.
 fn step<R: Threads + Wait + Sync>(
     rt: &R,
     stage: &mut Stage,
@@ -94,7 +94,7 @@ fn step<R: Threads + Wait + Sync>(
     }
 }
 
-/// Goes through the script. False where a line is no step, or where something fails twice.
+/// Goes through the script. False if a line is no step, or if something fails twice.
 fn play<R: Threads + Wait + Sync>(rt: &R, stage: &mut Stage, script: &mut Script) -> bool {
     let mut files = MemoryFiles::new(stage.alloc);
     let mut objects = Vec::new(stage.alloc);

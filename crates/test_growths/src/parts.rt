@@ -26,7 +26,7 @@ fn key_of(framed: &[u8]) -> Key {
     }
 }
 
-/// Tries to put the object in, which comes back where it finds no memory.
+/// Tries to put the object in, which comes back if it finds no memory.
 fn put(
     stage: &mut Stage,
     cache: &mut ObjectCache<Global>,
@@ -42,7 +42,7 @@ fn put(
     stored
 }
 
-/// Puts a blob in. False where that fails twice.
+/// Puts a blob in. False if that fails twice.
 fn keep(stage: &mut Stage, cache: &mut ObjectCache<Global>, framed: &[u8]) -> bool {
     let made = match object(stage.alloc, framed) {
         Ok(object) => Ok(object),
@@ -69,7 +69,7 @@ fn lengths(cache: &mut ObjectCache<Global>) -> u64 {
     u64::from(first) + u64::from(second)
 }
 
-/// A cache of two blobs, and its other calls, which tell how many lengths it has. False where memory is refused twice.
+/// A cache of two blobs, and its other calls, which tell how many lengths it has. False if memory is refused twice.
 fn use_cache(stage: &mut Stage) -> bool {
     let Some(mut cache) = cache(stage) else {
         return false;
@@ -154,7 +154,7 @@ fn is_queue(queue: &mut Imports<Global>) -> bool {
     is_awaited && is_taken && is_failed && fetches(queue, key) && queue.flights() == 1
 }
 
-/// A queue, and all its other calls. False where memory is refused twice.
+/// A queue, and all its other calls. False if memory is refused twice.
 fn use_queue(stage: &mut Stage) -> bool {
     let Some(mut queue) = queue(stage) else {
         return false;
@@ -165,7 +165,7 @@ fn use_queue(stage: &mut Stage) -> bool {
     true
 }
 
-/// The three by themselves. False where memory is refused twice.
+/// The three by themselves. False if memory is refused twice.
 pub fn use_parts(stage: &mut Stage) -> bool {
     use_directory(stage) && use_cache(stage) && use_queue(stage)
 }

@@ -40,7 +40,7 @@ fn room(alloc: Global) -> Option<Vec<u8>> {
     }
 }
 
-/// All that is read. None where it can't be read or is too long.
+/// All that is read. None if it can't be read or is too long.
 pub fn read_script<R: Read>(alloc: Global, reader: &mut R) -> Option<Vec<u8>> {
     let mut text = room(alloc)?;
     let mut piece = [0; PIECE];
@@ -60,7 +60,7 @@ pub fn id_in(text: &[u8]) -> Option<Id> {
     Some(Id { bytes })
 }
 
-/// The request of a line. None where it is none, or where memory is refused twice.
+/// The request of a line. None if it is none, or if memory is refused twice.
 pub fn request_in(alloc: Global, line: &[u8]) -> Option<Request> {
     let item = match read_request(alloc, line) {
         Ok(item) => item,

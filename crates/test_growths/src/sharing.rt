@@ -58,7 +58,7 @@ fn look<J: Naming>(teller: &mut Teller, pass: &mut Recording<J>) {
     }
 }
 
-/// The line's request is called. False where it is none.
+/// The line's request is called. False if it is none.
 fn ask<T: Attempts<Outside> + Drop, J: Naming, R: Wait>(
     rt: &R,
     alloc: Global,
@@ -100,7 +100,7 @@ fn stop<T: Attempts<Outside> + Drop, J: Naming, R: Wait>(
     teller.end("ok");
 }
 
-/// One step within a life. False where it is none.
+/// One step within a life. False if it is none.
 fn step<T: Attempts<Outside> + Drop, J: Naming, R: Wait>(
     rt: &R,
     alloc: Global,
@@ -299,7 +299,7 @@ fn unused(alloc: Global, room: Room<Global>, tree: Tree) -> Option<Mounted>
     }
 }
 
-/// Shares a mount with these ties. None where its pass doesn't come back.
+/// Shares a mount with these ties. None if its pass doesn't come back.
 fn share<J: Naming + Send, R: Threads + Wait + Sync>(
     rt: &R,
     stage: &mut Stage,
@@ -369,7 +369,7 @@ fn share_once<R: Threads + Wait + Sync>(
     share::<Brand, R>(rt, stage, objects, script, mount, ties)
 }
 
-/// Shares the tree, again where that came nowhere.
+/// Shares the tree, again if that came nowhere.
 fn share_tree<R: Threads + Wait + Sync>(
     rt: &R,
     stage: &mut Stage,
@@ -384,7 +384,7 @@ fn share_tree<R: Threads + Wait + Sync>(
     }
 }
 
-/// A shared life over these files, which it leaves. None where a line is no step, or where something fails twice.
+/// A shared life over these files, which it leaves. None if a line is no step, or if something fails twice.
 pub fn live_shared<R: Threads + Wait + Sync>(
     rt: &R,
     stage: &mut Stage,

@@ -36,7 +36,7 @@ impl Stage {
         }
     }
 
-    /// The framed object is looked at, and can be fetched from now on. False where memory is refused twice.
+    /// The framed object is looked at, and can be fetched from now on. False if memory is refused twice.
     pub fn keep(&mut self, id: Id, framed: Vec<u8>) -> bool {
         self.look(id, framed.as_slice());
         self.insert(id, framed.as_slice()).is_ok() || self.insert(id, framed.as_slice()).is_ok()

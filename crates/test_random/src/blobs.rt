@@ -63,7 +63,7 @@ static BLOBS: [Blob; 8] = [
 ];
 
 impl Blob {
-    /// Its framed bytes. None where the repository lacks it.
+    /// Its framed bytes. None if the repository lacks it.
     pub(crate) fn framed(&self) -> Option<&'static [u8]> {
         match self.content {
             Err(Cause::Missing) => None,
@@ -77,7 +77,7 @@ pub(crate) fn blob_at(index: usize) -> &'static Blob {
     &BLOBS[index % 8]
 }
 
-/// The blob of that id. None where no file and no link of a random commit has it.
+/// The blob of that id. None if no file and no link of a random commit has it.
 pub(crate) fn blob_of(id: Id) -> Option<&'static Blob> {
     for blob in &BLOBS {
         if blob.object.id == id {

@@ -212,7 +212,7 @@ impl Commit {
         }
     }
 
-    /// The id of the tree of that index, or that of the root where there is none.
+    /// The id of the tree of that index, or that of the root if there is none.
     fn tree_id(&self, index: usize) -> Id {
         match self.trees.get(index) {
             Some(tree) => tree.id,
@@ -230,7 +230,7 @@ impl Commit {
         None
     }
 
-    /// The framed bytes that the repository has under an id. None where the object is missing.
+    /// The framed bytes that the repository has under an id. None if the object is missing.
     pub fn framed(&self, id: Id) -> Option<&[u8]> {
         match (self.framed_tree(id), blob_of(id)) {
             (Some(framed), _) => Some(framed),

@@ -11,8 +11,8 @@ fn kind_in(reply: &Option<Reply>) -> Option<Kind> {
     }
 }
 
-/// What stands at a path. None where nothing does that the oracle knows. The request and the reply go by a call, so
-/// that what drops each variant of them is not written out here.
+/// What stands at a path. None if nothing does that the oracle knows. The request and the reply go by a call, so that
+/// what drops each variant of them is not written out here.
 pub fn kind_at(alloc: Global, tree: &mut WholeTree, places: &[u8]) -> Result<Option<Kind>, Unmade> {
     let request = Request::Kind(path_of(alloc, places)?);
     let reply = tree.step(alloc, &request);
@@ -33,7 +33,7 @@ pub(crate) fn look_at(kind: Option<Kind>, at: Path) -> Request {
     }
 }
 
-/// Notes the four paths that go on with one name more.
+/// Notes the four paths that continue with one name more.
 fn push_below(alloc: Global, paths: &mut Vec<Places>, places: &[u8]) -> Result<(), AllocError> {
     for place in 0..4 {
         paths.push(below(alloc, places, place)?)?;
@@ -41,7 +41,7 @@ fn push_below(alloc: Global, paths: &mut Vec<Places>, places: &[u8]) -> Result<(
     Ok(())
 }
 
-/// Asks all of one path, and notes those below it where it is a directory's.
+/// Asks all of one path, and notes those below it if it is a directory's.
 fn push_looks(
     alloc: Global,
     tree: &mut WholeTree,

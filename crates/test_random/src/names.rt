@@ -25,7 +25,7 @@ pub fn name(alloc: Global, bytes: &[u8]) -> Result<Name, Unmade> {
     Ok(Name::new(bytes.to_vec(alloc)?)?)
 }
 
-/// The places that go on with one more.
+/// The places that continue with one more.
 pub(crate) fn below(alloc: Global, places: &[u8], place: u8) -> Result<Places, AllocError> {
     let mut below = places.to_vec(alloc)?;
     below.push(place)?;

@@ -10,8 +10,8 @@ fn is_silent(alloc: Global, tree: &mut WholeTree, request: &Request) -> Result<b
     Ok(is_none)
 }
 
-/// Whether a look's reply is one that the oracle allows, which goes on by it. Where it says nothing, an object can't be
-/// had.
+/// Whether a look's reply is one that the oracle allows, which continues by it. If it says nothing, an object is
+/// unavailable.
 pub fn is_seen(
     alloc: Global,
     tree: &mut WholeTree,
@@ -24,7 +24,7 @@ pub fn is_seen(
     }
 }
 
-/// Whether an entry's reply is one that the oracle allows, which goes on by it; or a fault, which changes nothing.
+/// Whether an entry's reply is one that the oracle allows, which continues by it; or a fault, which changes nothing.
 pub fn replays(alloc: Global, tree: &mut WholeTree, entry: &Entry) -> Result<bool, AllocError> {
     if matches!(entry.reply, Reply::Fault(_)) {
         return Ok(true);

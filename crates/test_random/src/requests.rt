@@ -6,7 +6,7 @@ use eden_oracle::WholeTree;
 use std::alloc::{AllocError, Global};
 use test_samples::random;
 
-/// The deepest paths of requests have so many names.
+/// The deepest paths of requests have this many names.
 const DEEPEST: u32 = 4;
 
 /// The most bytes of a write.
@@ -21,7 +21,7 @@ fn goes_on(is_dir: bool, seed: &mut u64) -> bool {
     random(seed) % 6 != 0 && (is_dir || random(seed) % 12 == 0)
 }
 
-/// A path that goes on below directories, and now and then below what is none.
+/// A path that continues below directories, and now and then below what is none.
 fn some_places(alloc: Global, tree: &mut WholeTree, seed: &mut u64) -> Result<Places, Unmade> {
     let mut places = Vec::new(alloc);
     for _ in 0..DEEPEST {

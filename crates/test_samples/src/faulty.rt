@@ -24,16 +24,16 @@ pub enum Call {
     Read,
     /// Writing to an open file.
     Write,
-    /// Waiting until the disk has an open file, or a folder's names.
+    /// Waiting until the disk has an open file, or a directory's names.
     Sync,
     Rename,
     Remove,
-    /// Reading a folder, once its names have been given.
+    /// Reading a directory, once its names have been given.
     List,
 }
 
 /// A file system before another one, for tests: all calls of one kind fail, each file may be opened in another's place,
-/// and each folder has a name first that isn't UTF-8.
+/// and each directory has a name first that isn't UTF-8.
 #[derive(Clone, Drop)]
 pub struct FaultySystem<'a, R> {
     pub files: R,
@@ -41,7 +41,7 @@ pub struct FaultySystem<'a, R> {
     pub call: Call,
     /// Their error.
     pub kind: ErrorKind,
-    /// What is opened in the place of any file: as where it took that place after somebody looked.
+    /// What is opened in the place of any file: as when it took that place after somebody looked.
     pub instead: Option<&'a str>,
 }
 
@@ -238,7 +238,7 @@ impl<F: OpenFile> OpenFile for FaultyFile<F> {
 // A name that isn't UTF-8, and its end.
 const ODD_NAME: [u8; 3] = [0xff, 0xfe, 0];
 
-/// The names of a folder of `FaultySystem`.
+/// The names of a directory of `FaultySystem`.
 #[derive(Drop)]
 pub struct FaultyDir<D> {
     dir: D,

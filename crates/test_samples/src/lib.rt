@@ -1,5 +1,5 @@
-//! What tests of several crates share: random words, objects as Git has them, and a file system that fails where a
-//! test wants it.
+//! What tests of several crates share: random words, objects as Git has them, and a file system that fails if a test
+//! wants it.
 #![tactic(auto)]
 
 mod faulty;

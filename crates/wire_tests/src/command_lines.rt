@@ -8,7 +8,7 @@ use mountd_options::{
 use std::alloc::Global;
 use std::process::Abort;
 
-// The tree with the one file test.txt, and the folder of objects.
+// The tree with the one file test.txt, and the directory of objects.
 const ROOT: &str = "d8329fc1cc938780ffdd9f94e0d364e0ea74f579";
 
 const ROOT_BYTES: [u8; 20] = [
@@ -147,7 +147,7 @@ pub(crate) fn is_at(address: &Address, want: At) -> bool {
     }
 }
 
-/// Where objects come from: the folder, as one of objects or as a repository, or a server.
+/// Where objects come from: the directory, as one of objects or as a repository, or a server.
 #[derive(Clone, Copy)]
 enum Origin {
     Folder,
@@ -255,7 +255,7 @@ fn takes_a_line_without_a_history(rt: HostRuntime) {
     check_asked(&rt, rt.alloc(), UNKEPT, UNKEPT_WANTED);
 }
 
-/// A server's port, and so many fetchers, passes and entries of the history.
+/// A server's port, and this many fetchers, passes and entries of the history.
 type Numbers = (u16, u32, u32, u32);
 
 fn has_numbers(given: &ServeOptions, want: Numbers) -> bool {
@@ -664,7 +664,7 @@ const NO_PLACES: &[Refused] = &[
     ),
 ];
 
-/// Whether words behind a line are refused by a text that begins so.
+/// Whether words after a line are refused by a text that begins so.
 fn is_refused_behind(
     rt: &impl Abort,
     alloc: Global,
@@ -677,7 +677,7 @@ fn is_refused_behind(
     is_refused(rt, alloc, line.as_slice(), front)
 }
 
-/// Tries each of the rows behind a line.
+/// Tries each of the rows after a line.
 fn check_behind(rt: &impl Abort, alloc: Global, line: &[&'static str], rows: &[Refused]) {
     for (at, (words, front)) in rows.iter().enumerate() {
         assert!(rt; is_refused_behind(rt, alloc, line, words, front), "at {at}");

@@ -12,7 +12,7 @@ fn given_out(rt: &impl Abort, alloc: Global, words: &[&str]) -> ObjectsOptions {
     }
 }
 
-/// Whether given-out objects are in the folder, as a repository or not.
+/// Whether given-out objects are in the directory, as a repository or not.
 fn is_in(objects: &Served, is_repository: bool) -> bool {
     match objects {
         Served::Folder(folder) => !is_repository && folder.as_str() == FOLDER,

@@ -108,7 +108,7 @@ fn text_of_an_odd_entry(rt: HostRuntime) {
     check(&rt, rt.alloc(), odd, want);
 }
 
-// So many times that byte.
+// This many times that byte.
 pub(crate) fn repeated(rt: &impl Abort, alloc: Global, byte: u8, count: usize) -> Reply {
     let bytes = Vec::from_elem(alloc, byte, count).expect(rt, "memory");
     Reply::Data(Bytes::new(bytes))

@@ -405,7 +405,7 @@ fn lines_that_are_refused(rt: HostRuntime) {
     all_reply(&rt, rt.alloc(), REFUSED, b"err 22 EINVAL\n");
 }
 
-// So many names of so many bytes, which are too many.
+// This many names of this many bytes, which are too many.
 const TOO_LONG: &[(usize, usize)] = &[(1, 256), (257, 1), (16, 255)];
 
 // Whether such a line is refused.
@@ -421,7 +421,7 @@ fn lines_that_are_too_long(rt: HostRuntime) {
     }
 }
 
-// A name of so many bytes `a`, behind a slash.
+// A name of this many bytes `a`, after a slash.
 fn push_name(rt: &impl Abort, line: &mut Vec<u8>, len: usize) {
     line.push(b'/').expect(rt, "memory");
     for _ in 0..len {
@@ -429,7 +429,7 @@ fn push_name(rt: &impl Abort, line: &mut Vec<u8>, len: usize) {
     }
 }
 
-// A line `kind` of a path of so many names, each of so many bytes `a`.
+// A line `kind` of a path of this many names, each of this many bytes `a`.
 fn deep(rt: &impl Abort, alloc: Global, names: usize, len: usize) -> Vec<u8> {
     let mut line = bytes_of(rt, alloc, b"kind ");
     for _ in 0..names {
@@ -438,7 +438,7 @@ fn deep(rt: &impl Abort, alloc: Global, names: usize, len: usize) -> Vec<u8> {
     line
 }
 
-// Lines, and the requests that they are, with what stands behind the path `/a`.
+// Lines, and the requests that they are, with what stands after the path `/a`.
 const SPELLINGS: &[(&[u8], &str, &str)] = &[
     (b"kind /a", "Kind", ""),
     (b"stat /a", "Stat", ""),
@@ -503,7 +503,7 @@ fn spellings_of_requests(rt: HostRuntime) {
     }
 }
 
-// A line that writes so many bytes.
+// A line that writes this many bytes.
 fn long_write(rt: &impl Abort, alloc: Global, count: usize) -> Vec<u8> {
     let mut line = bytes_of(rt, alloc, b"write /a 0 ");
     for _ in 0..count {
@@ -675,7 +675,7 @@ fn ask_fifty(rt: &impl Abort, alloc: Global, service: &mut Asked, writer: &mut S
     session(alloc, &mut input.as_slice(), writer, service).is_ok()
 }
 
-// How many of fifty requests reach the service where that write fails, and whether the session ends well.
+// How many of fifty requests reach the service if that write fails, and whether the session ends well.
 fn count_asked(rt: &impl Abort, alloc: Global, bad: u32) -> (u32, bool) {
     let count = Cell::new(0);
     let mut service = Asked {

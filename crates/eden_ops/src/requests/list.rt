@@ -19,7 +19,7 @@ use eden_model::{Attempt, Errno, Fault, Kind, MAX_ENTRIES, Name, Path, Reply, Wo
 use eden_overlay::Files;
 use std::alloc::{Allocator, Global};
 
-/// The entries of a directory whose names come after the given one, each with its kind: at most so many, 1 to 1,000,
+/// The entries of a directory whose names come after the given one, each with its kind: at most this many, 1 to 1,000,
 /// and whether others come after them.
 pub fn list<A: Allocator + Clone, W: World, F: Files<W>, C: Allocator + Clone>(
     inodes: &mut Inodes<A, W, F>,

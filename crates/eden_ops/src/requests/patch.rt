@@ -18,9 +18,9 @@ use eden_overlay::Files;
 use std::alloc::{Allocator, Global};
 
 /// Puts bytes into a file, from the offset on, and answers how many; over 2^30 are refused, and what would end past
-/// 2^30. A gap between its old end and the offset is filled with zeros. Where there are no bytes to put, its content
-/// isn't fetched and nothing changes. A fault leaves the file as it was. The file is stored once, however many bytes
-/// there are.
+/// 2^30. A gap between its old end and the offset is filled with zeros. If there are no bytes to put, its content isn't
+/// fetched and nothing changes. A fault leaves the file as it was. The file is stored once, however many bytes there
+/// are.
 pub fn patch<A: Allocator + Clone, W: World, F: Files<W>, C: Allocator + Clone>(
     inodes: &mut Inodes<A, W, F>,
     cache: &mut Stock<W, C>,

@@ -17,7 +17,7 @@ use eden_model::{Attempt, Bytes, Errno, MAX_DATA, Path, Reply, World};
 use eden_overlay::Files;
 use std::alloc::{Allocator, Global};
 
-/// The bytes of a file from the offset on, at most so many; over 65,536 is refused.
+/// The bytes of a file from the offset on, at most this many; over 65,536 is refused.
 pub fn read<A: Allocator + Clone, W: World, F: Files<W>, C: Allocator + Clone>(
     inodes: &mut Inodes<A, W, F>,
     cache: &mut Stock<W, C>,

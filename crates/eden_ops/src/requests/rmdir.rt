@@ -21,7 +21,7 @@ use eden_model::{Attempt, Errno, Kind, Path, Reply, World};
 use eden_overlay::Files;
 use std::alloc::{Allocator, Global};
 
-/// Removes a directory that has no entries. It is loaded, to see that it has none, and let go of before it goes.
+/// Removes a directory that has no entries. It is loaded, to see that it has none, and unloaded before it goes.
 pub fn rmdir<A: Allocator + Clone, W: World, F: Files<W>, C: Allocator + Clone>(
     inodes: &mut Inodes<A, W, F>,
     cache: &mut Stock<W, C>,

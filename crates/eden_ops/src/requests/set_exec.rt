@@ -30,8 +30,8 @@ fn exec_kind(exec: bool) -> Kind
     if exec { Kind::Exec } else { Kind::File }
 }
 
-/// Makes a file one that can be executed, or one that can't. Its content isn't fetched. Where it is so already nothing
-/// is stored, and nothing changes.
+/// Makes a file one that can be executed, or one that can't. Its content isn't fetched. If it is so already nothing is
+/// stored, and nothing changes.
 pub fn set_exec<A: Allocator + Clone, W: World, F: Files<W>, C: Allocator + Clone>(
     inodes: &mut Inodes<A, W, F>,
     cache: &mut Stock<W, C>,

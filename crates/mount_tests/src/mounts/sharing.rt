@@ -160,8 +160,8 @@ fn entries<J: Naming>(rt: &impl Abort, alloc: Global, shared: Held<J>, three: Th
     ended.ok().expect(rt, "each pass").history().len()
 }
 
-/// Nothing is fetched that nobody waits for. Where one pass was dropped and another is kept, mount and pass come back
-/// as they were. One that learnt a number isn't recorded.
+/// Nothing is fetched that nobody waits for. If one pass was dropped and another is kept, mount and pass come back as
+/// they were. One that learnt a number isn't recorded.
 fn tear<J: Naming, R: Wait + Abort>(rt: &R, alloc: Global, ties: Ties)
     requires ties { AreTied ties.lanes.items ties.ends.items 3 }
     requires names { names_of ties.lanes.items ≡ J.names }
@@ -287,7 +287,7 @@ fn fetch<J: Naming, R: Wait + Abort>(
 /// How often a fetcher asks for a key that a caller is about to want: for seconds.
 const TRIES: u32 = 1_000_000;
 
-/// What comes of the first key that is queued. `Nothing` where none is, however often it is asked.
+/// What comes of the first key that is queued. `Nothing` if none is, however often it is asked.
 fn fetch_in_time<J: Naming, R: Wait>(
     rt: &R,
     shared: &Held<J>,

@@ -20,7 +20,7 @@ pub(crate) struct Shelf {
     pub turns: u64,
     /// The place that the last attempt was handed.
     pub handed: Option<u64>,
-    /// How often directories were let go.
+    /// How often directories were unloaded.
     pub unloads: usize,
     /// Whether the disk has all that was stored.
     pub safe: bool,
