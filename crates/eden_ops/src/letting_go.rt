@@ -1,4 +1,4 @@
-//! Directories that are let go of.
+//! Directories that are unloaded.
 ghost use Rattle.std.specs.Prelude.{◌≡◌, ◌≤◌, Some, None, IfErr, OnOk};
 ghost use Rattle.eden_coupling.specs.Chains.{NoneMarked};
 ghost use Rattle.eden_tree.specs.Directory.{Row, child_of};
@@ -13,10 +13,9 @@ use eden_model::{Fault, Name, World};
 use eden_overlay::{Files, FilesFault};
 use std::alloc::{Allocator, Global};
 
-/// Lets go of every directory that is loaded at and below a path; an unsaved one is stored first.
+/// Unloads every directory that is loaded at and below a path; an unsaved one is stored first.
 ///
-/// Errors: `Overlay` where the device failed, and `Memory` where that alone was wanting: then some of them are still
-/// loaded.
+/// Errors: `Overlay` if the device failed, and `Memory` if that alone was wanting: then some of them are still loaded.
 pub fn let_go<A: Allocator + Clone, W: World, F: Files<W>>(
     inodes: &mut Inodes<A, W, F>,
     alloc: Global,
