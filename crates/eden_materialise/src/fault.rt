@@ -5,7 +5,7 @@ use eden_model::Fault;
 use eden_overlay::FilesFault;
 
 /// A fault of the stored files, as a mount tells it.
-pub(crate) fn told(fault: FilesFault) -> Fault
+pub fn told(fault: FilesFault) -> Fault
     ensures { result ≡ told_files_fault fault }
 {
     match fault {

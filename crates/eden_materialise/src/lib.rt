@@ -26,6 +26,7 @@ pub use addition::add_entry;
 pub use content::store_content;
 pub use entry_change::change_entry;
 pub use entry_move::move_entry;
+pub use fault::told;
 pub use new_entry::NewEntry;
 pub use owning::materialise;
 pub use reform::set_kind;

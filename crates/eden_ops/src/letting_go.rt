@@ -5,12 +5,13 @@ ghost use Rattle.eden_tree.specs.Directory.{Row, child_of};
 ghost use Rattle.eden_tree.specs.Paths.{row_at};
 ghost use Rattle.eden_inode.specs.Tables.{shows, ShowsSameNumbers};
 ghost use Rattle.eden_inode.specs.Trails.{KeepsPlaces};
-ghost use Rattle.eden_materialise.specs.Faults.{IsStoreFault, told_files_fault};
+ghost use Rattle.eden_materialise.specs.Faults.{IsStoreFault};
 ghost use Rattle.eden_ops.specs.Letting.{LetsGo};
 
 use eden_inode::Inodes;
+use eden_materialise::told;
 use eden_model::{Fault, Name, World};
-use eden_overlay::{Files, FilesFault};
+use eden_overlay::Files;
 use std::alloc::{Allocator, Global};
 
 /// Unloads every directory that is loaded at and below a path; an unsaved one is stored first.
@@ -35,15 +36,5 @@ pub fn let_go<A: Allocator + Clone, W: World, F: Files<W>>(
     match inodes.unload(alloc, path, 0).refused {
         None => Ok(()),
         Some(fault) => Err(told(fault)),
-    }
-}
-
-// What refused a store, as a mount tells it.
-fn told(refused: FilesFault) -> Fault
-    ensures { result ≡ told_files_fault refused }
-{
-    match refused {
-        FilesFault::Device => Fault::Overlay,
-        FilesFault::Memory => Fault::Memory,
     }
 }
