@@ -13,13 +13,11 @@ use Rattle.eden_shared.specs.Passes.{Carried}
 use Rattle.eden_wire.specs.declared.request.Item.{Item}
 use Rattle.eden_wire.specs.declared.request.Item.TheVariants.{Asks, Refuses, Bad}
 use Rattle.eden_wire.specs.declared.session_fault.SessionFault.{SessionFault}
-use Rattle.eden_wire.specs.declared.session_fault.SessionFault.TheVariants.{Memory}
 use Rattle.eden_wire.specs.Serving.{Session, Serves}
 use Rattle.eden_host.specs.Guests.{GuestAnswers, Visit, VisitAnswers}
-use Rattle.eden_host.specs.Sessions.{AreAttended, AreHosted, IsSeated, gathered}
+use Rattle.eden_host.specs.Sessions.{AreAttended, IsSeated, gathered}
 use Rattle.eden_host.specs.declared.fault.HostFault.{HostFault}
 use Rattle.eden_host.specs.declared.fault.HostFault.TheVariants.{Listen}
-use Rattle.eden_host.specs.declared.fault.HostFault.TheVariants as host
 
 module _ (honest : Type 0) (opening : Tree) (N : Numbers) where
   -- whose pass it is
@@ -89,10 +87,7 @@ module _ (honest : Type 0) (opening : Tree) (N : Numbers) where
         → AreAttended i o honest opening N (p ∷ ps) (p' ∷ ps') (gathered said later)
     attended_more p p' ps ps' said later first rest = inl (said, later, first, rest, refl)
 
-    none_attended : (ps : List Carried) → AreAttended i o honest opening N ps ps None
+    -- no session began
+    pub none_attended : (ps : List Carried) → AreAttended i o honest opening N ps ps None
     none_attended [] = refl
     none_attended (p ∷ ps) = inl (None, None, refl, none_attended ps, refl)
-
-    -- no session began
-    pub unhosted : (ps : List Carried) → AreHosted i o honest opening N ps ps (Err (host.Session Memory))
-    unhosted ps = (None, none_attended ps, refl)

@@ -1,3 +1,4 @@
 pub mod Guests
 pub mod Sessions
 pub mod Sharing
+pub mod Threads

@@ -1,6 +1,6 @@
 use Rattle.std.proofs.Common.{sym}
 use Rattle.eden_host.proofs.Attending.{attended}
-use Rattle.eden_host.proofs.attend.attend.Goals as goal
+use Rattle.eden_host.proofs.attend.Hosting.attend.Goals as goal
 
 pub returns : goal.returns
 returns g c =
